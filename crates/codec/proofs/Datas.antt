@@ -1,0 +1,71 @@
+-- Data and the bytes that it holds: each is read off the other.
+use Prim.Native.Nat.{ℕ, suc, _+_, _-_, _<_, _≤_}
+use mathlib.Core.Path.{_≡_, refl, sym, ap, _∙_}
+use mathlib.Core.Bool.{Bool, true, _&&_, and-eq-true-iff}
+use mathlib.Core.List.{List, [], _∷_, _++_}
+use native.Mathlib.Omega.{arith}
+use lib.ListN.{length, getD, take, drop, replicate}
+use lib.Seq.{length-take-le, take-at, drop-at}
+use lib.Dec.{leb}
+use borrow.Author.Tests.{leb-true, le-leb}
+use Rattle.laws.specs.Bytes.{zeros, padded}
+use Rattle.laws.proofs.Bytes.{are-zeros, getD-past, padded-take}
+use Rattle.codec.specs.declared.Data.{Data}
+use Rattle.codec.specs.Reading.{dataOf}
+use Rattle.codec.specs.Writing.{placesOf, bytesOf, tidy}
+
+-- at most six bytes, and the zeros behind them
+places : (l : List ℕ) → length l ≤ 6
+    → getD l 0 0 ∷ getD l 1 0 ∷ getD l 2 0 ∷ getD l 3 0 ∷ getD l 4 0 ∷ getD l 5 0 ∷ [] ≡ padded 6 l
+places [] h = refl
+places (a ∷ []) h = refl
+places (a ∷ b ∷ []) h = refl
+places (a ∷ b ∷ c ∷ []) h = refl
+places (a ∷ b ∷ c ∷ d ∷ []) h = refl
+places (a ∷ b ∷ c ∷ d ∷ e ∷ []) h = refl
+places (a ∷ b ∷ c ∷ d ∷ e ∷ f ∷ []) h = refl
+places (a ∷ b ∷ c ∷ d ∷ e ∷ f ∷ g ∷ l) h = absurd (omega arith)
+
+module _ (l : List ℕ) (h : length l ≤ 6) where
+  -- the bytes that were put into data are those that it holds
+  pub bytes-data : bytesOf (dataOf l) ≡ l
+  unfolding dataOf bytesOf
+  bytes-data = ap (take (length l)) (places l h) ∙ take-at l (replicate (6 - length l) 0) (length l) refl
+
+  -- and its other places hold 0
+  pub tidy-data : (most : ℕ) → length l ≤ most → tidy most (dataOf l) ≡ true
+  unfolding dataOf tidy
+  tidy-data most k =
+      let z : zeros (drop (length l) (padded 6 l)) ≡ true = rw (drop-at l (replicate (6 - length l) 0) (length l) refl) (are-zeros (6 - length l)) in
+      simp (le-leb (length l) most k, places l h, z)
+
+-- tidy data is at most so long, and is also tidy where there is more room
+pub tidy-most : (most : ℕ) (d : Data) → tidy most d ≡ true → d .len ≤ most
+unfolding tidy
+tidy-most most d t = leb-true (d .len) most (and-eq-true-iff (leb (d .len) most) (zeros (drop (d .len) (placesOf d))) .0 t .0)
+
+pub tidy-more : (most more : ℕ) (d : Data) → most ≤ more → tidy most d ≡ true → tidy more d ≡ true
+unfolding tidy
+tidy-more most more d h t =
+    simp (le-leb (d .len) more (omega (arith, tidy-most most d t)))
+    (and-eq-true-iff (leb (d .len) most) (zeros (drop (d .len) (placesOf d))) .0 t .1)
+
+module _ (d : Data) (t : tidy 6 d ≡ true) where
+  pub bytes-length : length (bytesOf d) ≡ d .len
+  unfolding bytesOf
+  bytes-length = length-take-le (d .len) (placesOf d) (tidy-most 6 d t)
+
+  pub bytes-padded : padded 6 (bytesOf d) ≡ placesOf d
+  unfolding bytesOf tidy
+  bytes-padded =
+      padded-take (d .len) 6 (placesOf d) (tidy-most 6 d t) (omega arith)
+      (and-eq-true-iff (leb (d .len) 6) (zeros (drop (d .len) (placesOf d))) .0 t .1)
+
+  -- a byte of the list is the byte of its place
+  pub byte-place : (i : ℕ) → getD (bytesOf d) i 0 ≡ getD (placesOf d) i 0
+  byte-place i = sym (getD-past (bytesOf d) (6 - length (bytesOf d)) i) ∙ ap (λ (l : List ℕ). getD l i 0) bytes-padded
+
+  -- tidy data is made of the bytes that it holds
+  pub data-bytes : dataOf (bytesOf d) ≡ d
+  unfolding dataOf
+  data-bytes = simp (bytes-length, byte-place 0, byte-place 1, byte-place 2, byte-place 3, byte-place 4, byte-place 5)

@@ -1,0 +1,69 @@
+-- What is known of a header that no check refuses.
+use Prim.Native.Nat.{ℕ, _<_, _≤_}
+use mathlib.Core.Path.{_≡_, refl}
+use mathlib.Core.Bool.{Bool, true, false, cond, not, _&&_, _||_}
+use mathlib.Mathlib.Data.Bool.Basic.{or-eq-false-eq-eq-false-and-eq-false as neither}
+use native.Mathlib.Omega.{arith}
+use mathlib.Core.List.{List}
+use lib.Dec.{ltb, leb, eqb}
+use borrow.Author.Tests.{ltb-false, leb-false, eqb-false, eq-eqb, le-leb}
+use Rattle.laws.specs.Checks.{firstOf, holdsAt}
+use Rattle.laws.proofs.Tests.{not-both}
+use Rattle.laws.proofs.Checks.{none-holds}
+use Rattle.codec.specs.declared.Header.{Header}
+use Rattle.codec.specs.Fields.{headerOf}
+use Rattle.codec.specs.Reading.{headerChecks, barred, unserved, cramped}
+
+-- every field of a header is within its bits, whatever the record
+pub record Ranged (h : Header) : Type 0 where
+  pub dir : h .dir ≤ 1
+  pub address : h .address ≤ 127
+  pub service : h .service ≤ 7
+  pub rtr : h .rtr ≤ 1
+  pub dlc : h .dlc ≤ 15
+  pub response : h .response ≤ 3
+  pub flag : h .flag ≤ 1
+  pub object : h .object ≤ 31
+
+pub ranged : (r : List ℕ) → Ranged (headerOf r)
+unfolding headerOf
+ranged r = omega arith
+
+-- a header that check 3 lets pass
+pub record Passed (h : Header) : Type 0 where
+  pub rtr : h .rtr ≡ 1 → ⊥
+  pub dlc : h .dlc ≤ 8
+  pub address : h .address ≤ 125
+
+pub passed : (h : Header) → firstOf (headerChecks h) ≡ 0 → Passed h
+unfolding holdsAt
+passed h e =
+    let none = none-holds (headerChecks h) refl .0 e in
+    let a = neither (eqb (h .rtr) 1 || ltb 8 (h .dlc)) (ltb 125 (h .address)) .0 (none 3) in
+    let b = neither (eqb (h .rtr) 1) (ltb 8 (h .dlc)) .0 (a .0) in
+    record {
+      rtr = eqb-false (h .rtr) 1 (b .0);
+      dlc = ltb-false 8 (h .dlc) (b .1);
+      address = ltb-false 125 (h .address) (a .1);
+    }
+
+-- and a long form that no check refuses
+pub record Long (h : Header) : Type 0 where
+  pub least : 2 ≤ h .dlc
+  pub most : h .dlc ≤ 8
+  pub service : 4 ≤ h .service
+  pub flagged : h .flag ≡ 1 → 4 ≤ h .dlc
+
+pub long-of : (h : Header) → firstOf (headerChecks h) ≡ 0 → (h .dlc ≡ 0 → ⊥) → Long h
+unfolding holdsAt
+long-of h e z =
+    let none = none-holds (headerChecks h) refl .0 e in
+    let a = neither (eqb (h .dlc) 1) (leb 2 (h .dlc) && ltb (h .service) 4) .0 (none 5) in
+    let one = eqb-false (h .dlc) 1 (a .0) in
+    let two = le-leb 2 (h .dlc) (omega arith) in
+    record {
+      least = omega arith;
+      most = passed h e .dlc;
+      service = ltb-false (h .service) 4 (not-both (leb 2 (h .dlc)) (ltb (h .service) 4) (a .1) two);
+      flagged = λ f. ltb-false (h .dlc) 4 (not-both (leb 2 (h .dlc) && eqb (h .flag) 1) (ltb (h .dlc) 4) (none 8) (simp (two, eq-eqb (h .flag) 1 f)));
+    }

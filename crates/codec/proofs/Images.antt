@@ -1,0 +1,36 @@
+-- The ten bytes of a written record, one by one.
+use Prim.Native.Nat.{ℕ, suc, _+_, _-_, _*_, _≤_}
+use mathlib.Core.Path.{_≡_, refl, ap, _∙_}
+use mathlib.Core.Bool.{true}
+use mathlib.Core.List.{List, [], _∷_, _++_}
+use native.Mathlib.Omega.{arith}
+use lib.ListN.{length, replicate}
+use Rattle.laws.specs.Bytes.{padded}
+use Rattle.codec.specs.declared.Subject.{Subject}
+use Rattle.codec.specs.declared.Data.{Data}
+use Rattle.codec.specs.Reading.{dataOf}
+use Rattle.codec.specs.Writing.{placesOf, bytesOf, tidy, longFrame}
+use Rattle.codec.proofs.Datas.{tidy-most, tidy-more, tidy-data, bytes-data, bytes-length, bytes-padded}
+
+-- four bytes, then what stands behind the ID, padded
+pub long-padded : (u : Subject) (flag : ℕ) (p : List ℕ) → length p ≤ 6
+    → padded 10 (longFrame u flag p)
+    ≡ (u .dir * 128 + u .address) ∷ (u .service * 32 + (length p + 2)) ∷ (u .response * 64 + flag * 32 + u .object) ∷ u .id ∷ padded 6 p
+unfolding longFrame
+long-padded u flag p h =
+    let q : 10 - suc (suc (suc (suc (length p)))) ≡ 6 - length p = omega arith in
+    rw q
+
+pub long-bytes : (u : Subject) (flag : ℕ) (d : Data) → tidy 6 d ≡ true
+    → padded 10 (longFrame u flag (bytesOf d))
+    ≡ (u .dir * 128 + u .address) ∷ (u .service * 32 + (d .len + 2)) ∷ (u .response * 64 + flag * 32 + u .object) ∷ u .id ∷ placesOf d
+long-bytes u flag d t =
+    let n = bytes-length d t in
+    long-padded u flag (bytesOf d) (omega (arith, tidy-most 6 d t)) ∙ rw (bytes-padded d t, n)
+
+-- what stands behind a fragment's ID is at most six bytes
+pub fragment-payload : (n k : ℕ) (d : Data) → tidy 4 d ≡ true
+    → (tidy 6 (dataOf (n ∷ k ∷ bytesOf d)) ≡ true) × (bytesOf (dataOf (n ∷ k ∷ bytesOf d)) ≡ n ∷ k ∷ bytesOf d)
+fragment-payload n k d t =
+    let h : length (n ∷ k ∷ bytesOf d) ≤ 6 = omega (arith, bytes-length d (tidy-more 4 6 d (omega arith) t), tidy-most 4 d t) in
+    (tidy-data (n ∷ k ∷ bytesOf d) h 6 h, bytes-data (n ∷ k ∷ bytesOf d) h)

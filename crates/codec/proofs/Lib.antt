@@ -1,0 +1,4 @@
+pub mod Headers
+pub mod Datas
+pub mod Fits
+pub mod Images

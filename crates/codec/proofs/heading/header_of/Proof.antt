@@ -1,0 +1,29 @@
+use native.Mathlib.Nat.{div-one}
+use Rattle.codec.specs.Fields.{headerOf}
+use borrow.Author.Needs.{needs}
+use Rattle.codec.proofs.heading.header_of.Statement.{statement}
+use Rattle.codec.proofs.heading.header_of.Tie as tie
+use Rattle.codec.proofs.heading.header_of.Reads as reads
+use Rattle.codec.proofs.heading.header_of.Lts as lts
+use Rattle.codec.proofs.octets.byte_at.Reads as byte-at-reads
+
+byte-at-requires : tie.Need-byte-at-requires
+byte-at-requires c κs = search needs
+
+byte-at-requires-2 : tie.Need-byte-at-requires-2
+byte-at-requires-2 c κs = search needs
+
+byte-at-requires-3 : tie.Need-byte-at-requires-3
+byte-at-requires-3 c κs = search needs
+
+byte-at-requires-4 : tie.Need-byte-at-requires-4
+byte-at-requires-4 c κs = search needs
+
+returns : tie.Need-returns
+unfolding headerOf
+returns c = cc (div-one (c .before .before .before .byte-at .result), div-one (c .before .before .byte-at2 .result), div-one (c .before .byte-at3 .result))
+
+pub header-of-spec : {M : Type 1} → statement M
+header-of-spec =
+    tie.close
+    (tie.spec byte-at-requires byte-at-requires-2 byte-at-requires-3 byte-at-requires-4 returns)

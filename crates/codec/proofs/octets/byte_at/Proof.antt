@@ -1,0 +1,18 @@
+use lib.ListN.{List·getD-eq-default}
+use borrow.Author.Needs.{needs}
+use Rattle.codec.proofs.octets.byte_at.Statement.{statement}
+use Rattle.codec.proofs.octets.byte_at.Tie as tie
+use Rattle.codec.proofs.octets.byte_at.Reads as reads
+use Rattle.codec.proofs.octets.byte_at.Lts as lts
+
+shared-slice-read-result : tie.Need-shared-slice-read-result
+shared-slice-read-result c = search needs
+
+returns : tie.Need-returns
+returns c = search needs
+
+returns-2 : tie.Need-returns-2
+returns-2 c = search (List·getD-eq-default)
+
+pub byte-at-spec : {M : Type 1} → statement M
+byte-at-spec = tie.close (tie.spec shared-slice-read-result returns returns-2)

@@ -1,0 +1,45 @@
+use Rattle.codec.specs.Reading.{dataOf}
+use borrow.Author.Needs.{needs}
+use Rattle.codec.proofs.reading.data_of.Statement.{statement}
+use Rattle.codec.proofs.reading.data_of.Tie as tie
+use Rattle.codec.proofs.reading.data_of.Reads as reads
+use Rattle.codec.proofs.reading.data_of.Lts as lts
+use Rattle.codec.proofs.octets.byte_at.Reads as byte-at-reads
+
+cast-t3 : tie.Need-cast-t3
+cast-t3 c = search needs
+
+byte-at-requires : tie.Need-byte-at-requires
+byte-at-requires c κs = search needs
+
+byte-at-requires-2 : tie.Need-byte-at-requires-2
+byte-at-requires-2 c κs = search needs
+
+byte-at-requires-3 : tie.Need-byte-at-requires-3
+byte-at-requires-3 c κs = search needs
+
+byte-at-requires-4 : tie.Need-byte-at-requires-4
+byte-at-requires-4 c κs = search needs
+
+byte-at-requires-5 : tie.Need-byte-at-requires-5
+byte-at-requires-5 c κs = search needs
+
+byte-at-requires-6 : tie.Need-byte-at-requires-6
+byte-at-requires-6 c κs = search needs
+
+returns : tie.Need-returns
+unfolding dataOf
+returns c = cc
+
+pub data-of-spec : {M : Type 1} → statement M
+data-of-spec =
+    tie.close
+    (tie.spec
+    cast-t3
+    byte-at-requires
+    byte-at-requires-2
+    byte-at-requires-3
+    byte-at-requires-4
+    byte-at-requires-5
+    byte-at-requires-6
+    returns)

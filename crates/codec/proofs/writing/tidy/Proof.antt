@@ -1,0 +1,31 @@
+use Rattle.laws.proofs.Tests.{tests}
+use Rattle.codec.specs.Writing.{tidy}
+use borrow.Author.Needs.{needs}
+use Rattle.codec.proofs.writing.tidy.Statement.{statement}
+use Rattle.codec.proofs.writing.tidy.Tie as tie
+use Rattle.codec.proofs.writing.tidy.Reads as reads
+use Rattle.codec.proofs.writing.tidy.Lts as lts
+use Rattle.codec.proofs.octets.wide.Reads as wide-reads
+use Rattle.codec.proofs.writing.zeros_from.Reads as zeros-from-reads
+
+returns : tie.Need-returns
+unfolding tidy
+returns c = search tests
+
+slice-aggregate-zeros-from : tie.Need-slice-aggregate-zeros-from
+slice-aggregate-zeros-from c = search needs
+
+wide-requires : tie.Need-wide-requires
+wide-requires c κs = search needs
+
+zeros-from-requires : tie.Need-zeros-from-requires
+zeros-from-requires c κs = search needs
+
+returns-2 : tie.Need-returns-2
+unfolding tidy
+returns-2 c = search (tests, c .zeros-from .ensures, c .before .wide .ensures)
+
+pub tidy-spec : {M : Type 1} → statement M
+tidy-spec =
+    tie.close
+    (tie.spec returns slice-aggregate-zeros-from wide-requires zeros-from-requires returns-2)

@@ -1,0 +1,68 @@
+-- Writing a message (01, "Frame record": "Writing refuses .."; 000, figures 3.3, 3.13 and 3.14).
+use Prim.Native.Nat.{ℕ, _+_, _*_}
+use mathlib.Core.Bool.{Bool, cond, not, _&&_}
+use mathlib.Core.List.{List, [], _∷_, _++_}
+use lib.ListN.{length, take, drop}
+use lib.Dec.{leb, eqb}
+use Rattle.laws.specs.Checks.{Check, firstOf}
+use Rattle.laws.specs.Bytes.{zeros, padded}
+use Rattle.codec.specs.declared.Subject.{Subject}
+use Rattle.codec.specs.declared.Data.{Data}
+use Rattle.codec.specs.declared.Message.{Message}
+use Rattle.codec.specs.declared.Message.the-variants.{Short, Plain, Fragment}
+
+-- the six places of data, and the bytes among them that count
+abbrev pub placesOf : Data → List ℕ
+placesOf d = d .b0 ∷ d .b1 ∷ d .b2 ∷ d .b3 ∷ d .b4 ∷ d .b5 ∷ []
+
+unfoldable pub bytesOf : Data → List ℕ
+bytesOf d = take (d .len) (placesOf d)
+
+-- at most so many bytes, and 0 in each place that they do not use
+unfoldable pub tidy : ℕ → Data → Bool
+tidy most d = leb (d .len) most && zeros (drop (d .len) (placesOf d))
+
+-- Dir/Pri {0,1}, address {0 .. 125}, services 4 to 7, Request/Response {0 .. 3}, object {0 .. 31}; any ID
+unfoldable pub subjectFits : Subject → Bool
+subjectFits u =
+    leb (u .dir) 1 && leb (u .address) 125 && leb 4 (u .service) && leb (u .service) 7 && leb (u .response) 3 && leb (u .object) 31
+
+-- Dir/Pri {0,1}, address {0 .. 125}, service {0 .. 7}
+unfoldable pub shortFits : ℕ → ℕ → ℕ → Bool
+shortFits dir address service = leb dir 1 && leb address 125 && leb service 7
+
+-- whether some readable frame carries the message (the theorem `carried-exactly` says that this is what is tested)
+unfoldable pub carried : Message → Bool
+carried (Short dir address service) = shortFits dir address service
+carried (Plain u b) = subjectFits u && tidy 6 b
+carried (Fragment u number total b) = subjectFits u && tidy 4 b
+
+-- bytes 0 and 1, with RTR 0
+abbrev pub canHeader : ℕ → ℕ → ℕ → ℕ → List ℕ
+canHeader dir address service dlc = (dir * 128 + address) ∷ (service * 32 + dlc) ∷ []
+
+-- a long form: its DLC counts byte 2, the ID and what stands behind it
+unfoldable pub longFrame : Subject → ℕ → List ℕ → List ℕ
+longFrame u flag p =
+    canHeader (u .dir) (u .address) (u .service) (length p + 2) ++ (u .response * 64 + flag * 32 + u .object) ∷ u .id ∷ p
+
+-- the bytes of the frame that carries a message, up to its DLC
+unfoldable pub frameOf : Message → List ℕ
+frameOf (Short dir address service) = canHeader dir address service 0
+frameOf (Plain u b) = longFrame u 0 (bytesOf b)
+frameOf (Fragment u number total b) = longFrame u 1 (number ∷ total ∷ bytesOf b)
+
+-- the record: beyond the DLC it holds zeros
+unfoldable pub imageOf : Message → List ℕ
+imageOf m = padded 10 (frameOf m)
+
+-- the refusals of writing, in 01's order: another record length, a message that no readable frame carries
+abbrev pub writeChecks : Message → List ℕ → List Check
+writeChecks m r = (not (eqb (length r) 10), 1) ∷ (not (carried m), 3) ∷ []
+
+unfoldable pub writeNumber : Message → List ℕ → ℕ
+writeNumber m r = firstOf (writeChecks m r)
+
+-- the record afterwards: unchanged where writing is refused
+unfoldable pub writtenOf : Message → List ℕ → List ℕ
+writtenOf m r = cond (eqb (writeNumber m r) 0) (imageOf m) r

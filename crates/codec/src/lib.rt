@@ -1,0 +1,70 @@
+// The codec: frame records of ten bytes to messages and back (01, "Frame record"; 000, 3.2).
+mod heading;
+mod octets;
+mod reading;
+mod writing;
+
+pub use heading::header_of;
+pub use reading::read;
+pub use writing::write;
+
+// The fields of a record's first four bytes, as they stand there, whether or not the record is readable.
+pub struct Header {
+    pub dir: u8,
+    pub address: u8,
+    pub service: u8,
+    pub rtr: u8,
+    pub dlc: u8,
+    pub response: u8,
+    pub flag: u8,
+    pub object: u8,
+    pub id: u8,
+}
+
+// What each long message says of itself: from or to whom, which service, request or response, of what.
+pub struct Subject {
+    pub dir: u8,
+    pub address: u8,
+    pub service: u8,
+    pub response: u8,
+    pub object: u8,
+    pub id: u8,
+}
+
+// len data bytes, at most six. A place that is not used holds 0.
+pub struct Data {
+    pub len: u8,
+    pub b0: u8,
+    pub b1: u8,
+    pub b2: u8,
+    pub b3: u8,
+    pub b4: u8,
+    pub b5: u8,
+}
+
+pub enum Message {
+    // DLC 0: Dir/Pri, address and service type are the whole message.
+    Short {
+        dir: u8,
+        address: u8,
+        service: u8,
+    },
+    // The flag is clear: up to six data bytes.
+    Plain {
+        about: Subject,
+        body: Data,
+    },
+    // The flag is set: the fragment's number, the total byte count, and up to four data bytes.
+    Fragment {
+        about: Subject,
+        number: u8,
+        total: u8,
+        body: Data,
+    },
+}
+
+// What reading a record gives: its message, or the number of the refusal.
+pub enum Answer {
+    Got(Message),
+    Refused(u8),
+}

@@ -1,0 +1,17 @@
+// Bytes, one at a time.
+ghost use mathlib.Core.Path.{_≡_};
+ghost use lib.ListN.{getD};
+
+// The byte at a place; 0 where there is none.
+pub(crate) fn byte_at(bytes: &[u8], i: usize) -> u8
+    ensures { λ r. ⌜ r ≡ getD (now (bytes .entry)) i 0 ⌝ }
+{
+    if i < bytes.len() { bytes[i] } else { 0 }
+}
+
+// A byte as a length.
+pub(crate) fn wide(x: u8) -> usize
+    ensures { λ r. ⌜ r ≡ x ⌝ }
+{
+    x as usize
+}

@@ -1,0 +1,71 @@
+-- Zeros behind a list, and a list that is stored element by element.
+use Prim.Native.Nat.{ℕ, zero, suc, _+_, _-_, _<_, _≤_}
+use mathlib.Core.Path.{_≡_, refl, sym, ap, _∙_}
+use mathlib.Core.Bool.{Bool, true, _&&_, and-eq-true-iff}
+use mathlib.Core.List.{List, [], _∷_, _++_, append-nil}
+use native.Mathlib.Omega.{arith}
+use lib.ListN.{length, getD, take, drop, replicate, length-append, length-replicate, length-take, length-drop, drop-of-length-le, take-append-drop}
+use lib.Seq.{sets, sets-eq, take-add, take-all, take-length, drop-cons, length-take-le}
+use native.Mathlib.Numerals.{add-one}
+use lib.Dec.{eqb}
+use borrow.Author.Tests.{eqb-true}
+use Rattle.laws.specs.Bytes.{zeros, padded}
+
+-- zeros are a repeated 0, and the other way round
+pub zeros-are : (l : List ℕ) → zeros l ≡ true → l ≡ replicate (length l) 0
+zeros-are [] e = refl
+zeros-are (b ∷ l) e =
+    let a = and-eq-true-iff (eqb b 0) (zeros l) .0 e in
+    let q : b ≡ 0 = eqb-true b 0 (a .0) in
+    rw (q, ← zeros-are l (a .1))
+
+pub are-zeros : (n : ℕ) → zeros (replicate n 0) ≡ true
+are-zeros zero = refl
+are-zeros (suc n) = are-zeros n
+
+-- zeros behind a list are not seen by who reads 0 past its end
+pub getD-past : (l : List ℕ) (n i : ℕ) → getD (l ++ replicate n 0) i 0 ≡ getD l i 0
+getD-past [] zero i = refl
+getD-past [] (suc n) zero = refl
+getD-past [] (suc n) (suc i) = getD-past [] n i
+getD-past (b ∷ l) n zero = refl
+getD-past (b ∷ l) n (suc i) = getD-past l n i
+
+pub length-padded : (n : ℕ) (l : List ℕ) → length l ≤ n → length (padded n l) ≡ n
+length-padded n l h = simp (length-append, length-replicate) (omega arith)
+
+take-zeros : (n m : ℕ) → n ≤ m → take {A = ℕ} n (replicate m 0) ≡ replicate n 0
+take-zeros zero m h = refl
+take-zeros (suc n) zero h = absurd (omega arith)
+take-zeros (suc n) (suc m) h = ap (λ (l : List ℕ). 0 ∷ l) (take-zeros n m (omega arith))
+
+-- a list that holds zeros from k on is its first k elements, padded
+pub padded-take : (k most : ℕ) (s : List ℕ) → k ≤ most → most ≤ length s → zeros (drop k s) ≡ true → padded most (take k s) ≡ take most s
+padded-take k most s h l z =
+    let n : length (take k s) ≡ k = length-take-le k s (omega arith) in
+    let d : drop k s ≡ replicate (length s - k) 0 = zeros-are (drop k s) z ∙ ap (λ (j : ℕ). replicate j 0) (length-drop k s) in
+    let t = take-zeros (most - k) (length s - k) (omega arith) in
+    let q : k + (most - k) ≡ most = omega arith in
+    rw (n, ← t, ← d, ← take-add k (most - k) s, q)
+
+-- all that stands behind the first k elements
+pub take-rest : (k : ℕ) (l : List ℕ) → take (length l - k) (drop k l) ≡ drop k l
+take-rest k l = take-all (length l - k) (drop k l) (simp length-drop (omega arith))
+
+-- stores at every place of a list leave what was stored
+pub stored : (l vs : List ℕ) → length l ≡ length vs → sets l 0 vs ≡ vs
+stored l vs e =
+    sets-eq vs l 0 (omega arith)
+    ∙ ap (λ (t : List ℕ). vs ++ t) (drop-of-length-le l {i = 0 + length vs} (omega arith))
+    ∙ append-nil vs
+
+-- zeros, tested from a place on
+pub zeros-step : (l : List ℕ) (i : ℕ) → i < length l → zeros (drop i l) ≡ eqb (getD l i 0) 0 && zeros (drop (i + 1) l)
+zeros-step l i h = simp (add-one, drop-cons l i 0 h)
+
+pub zeros-end : (l : List ℕ) (i : ℕ) → length l ≤ i → zeros (drop i l) ≡ true
+zeros-end l i h = simp (drop-of-length-le l {i = i} h)
+
+-- a list copied over another of its length
+pub copied : (s d : List ℕ) → length s ≡ length d → take (length s) s ++ drop (length s) d ≡ s
+copied s d e = rw (take-length s, drop-of-length-le d {i = length s} (omega arith)) (append-nil s)

@@ -1,0 +1,19 @@
+-- Lists of bytes.
+use Prim.Native.Nat.{ℕ, _-_, _+_, _<_}
+use mathlib.Core.Bool.{Bool, true, _&&_}
+use mathlib.Core.List.{List, [], _∷_, _++_}
+use lib.ListN.{length, getD, replicate}
+use lib.Dec.{eqb}
+
+-- each element is a byte
+abbrev pub Bytes : List ℕ → Type 0
+Bytes l = (i : ℕ) → getD l i 0 < 256
+
+-- each element is 0
+abbrev pub zeros : List ℕ → Bool
+zeros [] = true
+zeros (b ∷ l) = eqb b 0 && zeros l
+
+-- the list with zeros behind it, up to n elements
+abbrev pub padded : ℕ → List ℕ → List ℕ
+padded n l = l ++ replicate (n - length l) 0

@@ -1,0 +1,23 @@
+-- An ordered table of checks: each row is a test and the number that answers where it is the first to hold.
+use Prim.Native.Nat.{ℕ}
+use mathlib.Core.Bool.{Bool, true, false, cond, _&&_, _||_}
+use mathlib.Core.List.{List, [], _∷_}
+use lib.Dec.{ltb, eqb}
+
+abbrev pub Check : Type 0
+Check = Bool × ℕ
+
+-- the number of the first check that holds; 0 where none does
+abbrev pub firstOf : List Check → ℕ
+firstOf [] = 0
+firstOf (c ∷ cs) = cond (c .0) (c .1) (firstOf cs)
+
+-- whether the check of this number holds; no where the table has no such row
+unfoldable pub holdsAt : List Check → ℕ → Bool
+holdsAt [] n = false
+holdsAt (c ∷ cs) n = cond (eqb (c .1) n) (c .0) (holdsAt cs n)
+
+-- the rows' numbers rise strictly, and are above k
+abbrev pub risesFrom : ℕ → List Check → Bool
+risesFrom k [] = true
+risesFrom k (c ∷ cs) = ltb k (c .1) && risesFrom (c .1) cs
