@@ -2,3 +2,6 @@ pub mod Headers
 pub mod Datas
 pub mod Fits
 pub mod Images
+pub mod Long
+pub mod Trips
+pub mod Promises

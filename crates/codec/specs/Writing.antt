@@ -1,15 +1,16 @@
 -- Writing a message (01, "Frame record": "Writing refuses .."; 000, figures 3.3, 3.13 and 3.14).
-use Prim.Native.Nat.{ℕ, _+_, _*_}
+use Prim.Native.Nat.{ℕ, _+_, _*_, _<_}
 use mathlib.Core.Bool.{Bool, cond, not, _&&_}
 use mathlib.Core.List.{List, [], _∷_, _++_}
 use lib.ListN.{length, take, drop}
 use lib.Dec.{leb, eqb}
 use Rattle.laws.specs.Checks.{Check, firstOf}
-use Rattle.laws.specs.Bytes.{zeros, padded}
+use Rattle.laws.specs.Bytes.{Bytes, zeros, padded}
 use Rattle.codec.specs.declared.Subject.{Subject}
 use Rattle.codec.specs.declared.Data.{Data}
 use Rattle.codec.specs.declared.Message.{Message}
 use Rattle.codec.specs.declared.Message.the-variants.{Short, Plain, Fragment}
+use Rattle.codec.specs.Fields.{headerOf}
 
 -- the six places of data, and the bytes among them that count
 abbrev pub placesOf : Data → List ℕ
@@ -66,3 +67,13 @@ writeNumber m r = firstOf (writeChecks m r)
 -- the record afterwards: unchanged where writing is refused
 unfoldable pub writtenOf : Message → List ℕ → List ℕ
 writtenOf m r = cond (eqb (writeNumber m r) 0) (imageOf m) r
+
+-- a record with the bytes beyond its DLC cleared
+unfoldable pub clearedOf : List ℕ → List ℕ
+clearedOf r = padded 10 (take (headerOf r .dlc + 2) r)
+
+-- the ID, the number, the total and the data of a message are bytes: so is every u8 in the code
+abbrev pub Octets : Message → Type 0
+Octets (Short dir address service) = Unit {0}
+Octets (Plain u b) = (u .id < 256) × Bytes (placesOf b)
+Octets (Fragment u number total b) = (u .id < 256) × (number < 256) × (total < 256) × Bytes (placesOf b)

@@ -9,7 +9,7 @@ use lib.Seq.{sets, sets-eq, take-add, take-all, take-length, drop-cons, length-t
 use native.Mathlib.Numerals.{add-one}
 use lib.Dec.{eqb}
 use borrow.Author.Tests.{eqb-true}
-use Rattle.laws.specs.Bytes.{zeros, padded}
+use Rattle.laws.specs.Bytes.{Bytes, zeros, padded}
 
 -- zeros are a repeated 0, and the other way round
 pub zeros-are : (l : List ℕ) → zeros l ≡ true → l ≡ replicate (length l) 0
@@ -69,3 +69,20 @@ zeros-end l i h = simp (drop-of-length-le l {i = i} h)
 -- a list copied over another of its length
 pub copied : (s d : List ℕ) → length s ≡ length d → take (length s) s ++ drop (length s) d ≡ s
 copied s d e = rw (take-length s, drop-of-length-le d {i = length s} (omega arith)) (append-nil s)
+
+-- what is made of bytes is bytes
+pub bytes-nil : Bytes []
+bytes-nil i = omega arith
+
+pub bytes-cons : (b : ℕ) (l : List ℕ) → b < 256 → Bytes l → Bytes (b ∷ l)
+bytes-cons b l h k zero = h
+bytes-cons b l h k (suc i) = k i
+
+pub bytes-padded : (n : ℕ) (l : List ℕ) → Bytes l → Bytes (padded n l)
+bytes-padded n l h i = rw (getD-past l (n - length l) i) (h i)
+
+pub bytes-take : (n : ℕ) (l : List ℕ) → Bytes l → Bytes (take n l)
+bytes-take zero l h i = omega arith
+bytes-take (suc n) [] h i = omega arith
+bytes-take (suc n) (b ∷ l) h zero = h 0
+bytes-take (suc n) (b ∷ l) h (suc i) = bytes-take n l (λ j. h (suc j)) i

@@ -1,0 +1,116 @@
+-- The long form, plain and fragment alike: u is the subject, f the flag, p what stands behind the ID.
+use Prim.Native.Nat.{ℕ, suc, _+_, _-_, _*_, _/_, _%_, _<_, _≤_}
+use mathlib.Core.Path.{_≡_, refl, sym, ap, _∙_}
+use mathlib.Core.Bool.{Bool, true, false, cond, _&&_, and-eq-true-iff}
+use mathlib.Core.List.{List, [], _∷_, _++_}
+use native.Mathlib.Omega.{arith}
+use lib.ListN.{length, getD, take, drop, replicate, length-drop}
+use lib.Seq.{take-at}
+use lib.Dec.{ltb, leb, eqb}
+use borrow.Author.Tests.{eqb-true, eqb-false, eq-eqb, ne-eqb, le-ltb, le-leb, lt-leb}
+use Rattle.laws.specs.Bytes.{padded}
+use Rattle.laws.specs.Checks.{firstOf}
+use Rattle.laws.proofs.Bytes.{length-padded}
+use Rattle.laws.proofs.Tests.{tests, split}
+use Rattle.codec.specs.declared.Header.{Header}
+use Rattle.codec.specs.declared.Subject.{Subject}
+use Rattle.codec.specs.declared.Data.{Data}
+use Rattle.codec.specs.declared.Answer.{Answer}
+use Rattle.codec.specs.declared.Answer.the-variants.{Got, Refused}
+use Rattle.codec.specs.declared.Message.{Message}
+use Rattle.codec.specs.declared.Message.the-variants.{Short, Plain, Fragment}
+use Rattle.codec.specs.Fields.{headerOf}
+use Rattle.codec.specs.Reading.{headerChecks, subjectOf, dataOf, longOf, messageOf, readOf}
+use Rattle.codec.specs.Writing.{bytesOf, tidy, subjectFits, longFrame, frameOf, carried}
+use Rattle.codec.proofs.Datas.{bytes-data, tidy-data, data-bytes}
+use Rattle.codec.proofs.Fits.{SubjectFits}
+use Rattle.codec.proofs.Images.{long-padded}
+
+-- a record that no check refuses is read
+pub got : (r : List ℕ) → length r ≡ 10 → firstOf (headerChecks (headerOf r)) ≡ 0 → readOf r ≡ Got (messageOf r)
+unfolding readOf
+got r n e = simp (eq-eqb (length r) 10 n, e)
+
+pub message-long : (r : List ℕ) (h : Header) → headerOf r ≡ h → (h .dlc ≡ 0 → ⊥)
+    → messageOf r ≡ longOf (subjectOf h) (h .flag) (take (h .dlc - 2) (drop 4 r))
+unfolding messageOf
+message-long r h e z = rw e (simp (ne-eqb (h .dlc) 0 z))
+
+two : (p : List ℕ) → 2 ≤ length p → getD p 0 0 ∷ getD p 1 0 ∷ drop 2 p ≡ p
+two [] h = absurd (omega arith)
+two (a ∷ []) h = absurd (omega arith)
+two (a ∷ b ∷ l) h = refl
+
+-- what a long frame may be
+pub record Shape (f : ℕ) (p : List ℕ) : Type 0 where
+  pub bit : f ≤ 1
+  pub room : length p ≤ 6
+  pub numbered : f ≡ 1 → 2 ≤ length p
+
+abbrev headerWith : Subject → ℕ → ℕ → Header
+headerWith u f n = record {
+    dir = u .dir; address = u .address; service = u .service; rtr = 0; dlc = n;
+    response = u .response; flag = f; object = u .object; id = u .id }
+
+module _ (u : Subject) (f : ℕ) (p : List ℕ) (s : Shape f p) where
+  -- its header is read off the frame
+  long-header : SubjectFits u → headerOf (padded 10 (longFrame u f p)) ≡ headerWith u f (length p + 2)
+  unfolding headerOf
+  long-header t =
+      let h = s .room in
+      let e0 : (u .dir * 128 + u .address) / 128 % 2 ≡ u .dir = omega arith in
+      let e1 : (u .dir * 128 + u .address) / 1 % 128 ≡ u .address = omega arith in
+      let e2 : (u .service * 32 + (length p + 2)) / 32 % 8 ≡ u .service = omega arith in
+      let e3 : (u .service * 32 + (length p + 2)) / 16 % 2 ≡ 0 = omega arith in
+      let e4 : (u .service * 32 + (length p + 2)) / 1 % 16 ≡ length p + 2 = omega arith in
+      let e5 : (u .response * 64 + f * 32 + u .object) / 64 % 4 ≡ u .response = omega arith in
+      let e6 : (u .response * 64 + f * 32 + u .object) / 32 % 2 ≡ f = omega arith in
+      let e7 : (u .response * 64 + f * 32 + u .object) / 1 % 32 ≡ u .object = omega arith in
+      rw (long-padded u f p h) (cc)
+
+  -- no check refuses it
+  long-unrefused : SubjectFits u → firstOf (headerChecks (headerWith u f (length p + 2))) ≡ 0
+  long-unrefused t =
+      let h = s .room in
+      let n0 = le-ltb 8 (length p + 2) (omega arith) in
+      let n1 = le-ltb 125 (u .address) (t .address) in
+      let n2 = ne-eqb (length p + 2) 1 (omega arith) in
+      let n3 = le-leb 2 (length p + 2) (omega arith) in
+      let n4 = le-ltb (u .service) 4 (t .named) in
+      split (eqb f 1)
+      (λ e. simp (n0, n1, n2, n3, n4, e, le-ltb (length p + 2) 4 (omega (arith, s .numbered (eqb-true f 1 e)))))
+      (λ e. simp (n0, n1, n2, n3, n4, e))
+
+  -- READING what was written
+  pub long-read : SubjectFits u → readOf (padded 10 (longFrame u f p)) ≡ Got (longOf u f p)
+  long-read t =
+      let r = padded 10 (longFrame u f p) in
+      let w = long-padded u f p (s .room) in
+      let n : length r ≡ 10 = ap length w ∙ ap (λ (k : ℕ). suc (suc (suc (suc k)))) (length-padded 6 p (s .room)) in
+      let h = long-header t in
+      let m = message-long r (headerWith u f (length p + 2)) h (omega arith) in
+      let d : drop 4 r ≡ padded 6 p = ap (drop 4) w in
+      let q : length p + 2 - 2 ≡ length p = omega arith in
+      got r n (rw h (long-unrefused t)) ∙ ap Got (m ∙ rw (d, q, take-at p (replicate (6 - length p) 0) (length p) refl))
+
+  -- WRITING what was read
+  pub long-back : frameOf (longOf u f p) ≡ longFrame u f p
+  unfolding longOf frameOf
+  long-back =
+      split (eqb f 1)
+      (λ e.
+          let k = s .numbered (eqb-true f 1 e) in
+          let b = bytes-data (drop 2 p) (rw length-drop (omega (arith, s .room))) in
+          simp (e, b) (rw (two p k, eqb-true f 1 e)))
+      (λ e.
+          let z : f ≡ 0 = omega (arith, s .bit, eqb-false f 1 e) in
+          simp (e, bytes-data p (s .room)) (rw z))
+
+  pub long-carried : subjectFits u ≡ true → carried (longOf u f p) ≡ true
+  unfolding longOf carried
+  long-carried t =
+      split (eqb f 1)
+      (λ e.
+          let k : length (drop 2 p) ≤ 4 = rw length-drop (omega (arith, s .room)) in
+          simp (e, t, tidy-data (drop 2 p) (omega arith) 4 k))
+      (λ e. simp (e, t, tidy-data p (s .room) 6 (s .room)))

@@ -1,0 +1,97 @@
+-- WHAT THE CODEC PROMISES. The definitions that these statements name stand in specs/; the lemmas behind them in the other files here.
+use Prim.Native.Nat.{ℕ, _<_}
+use mathlib.Core.Path.{_≡_, refl, sym, ap, _∙_}
+use mathlib.Core.Bool.{true, false, cond, not}
+use mathlib.Core.List.{List}
+use mathlib.Core.Logic.{_↔_}
+use native.Mathlib.Omega.{arith}
+use lib.ListN.{length}
+use lib.Dec.{eqb}
+use borrow.Author.Tests.{eqb-true, eq-eqb, ne-eqb, not-false}
+use denote.Ref.{now}
+use Rattle.laws.specs.Bytes.{Bytes}
+use Rattle.laws.specs.Checks.{firstOf, holdsAt}
+use Rattle.laws.proofs.Tests.{split}
+use Rattle.laws.proofs.Checks.{FirstAt, given-exactly, none-holds}
+use Rattle.codec.specs.declared.Answer.the-variants.{Got, Refused}
+use Rattle.codec.specs.declared.Message.{Message}
+use Rattle.codec.specs.Fields.{headerOf}
+use Rattle.codec.specs.Reading.{readOf, readChecks, numberOf}
+use Rattle.codec.specs.Writing.{Octets, carried, imageOf, writeChecks, writeNumber, writtenOf, clearedOf}
+use Rattle.codec.proofs.Trips.{written-read, read-written, read-is-carried, image-octets}
+use Rattle.codec.proofs.heading.header_of.Reads as header-of
+use Rattle.codec.proofs.reading.read.Reads as read
+use Rattle.codec.proofs.writing.write.Reads as write
+
+read-number : (r : List ℕ) → numberOf (readOf r) ≡ firstOf (readChecks r)
+unfolding readOf
+read-number r =
+    split (eqb (firstOf (readChecks r)) 0) (λ z. simp z (sym (eqb-true _ 0 z))) (λ z. simp z)
+
+-- what a write that is not refused leaves, and when it is not
+writes : (m : Message) (r : List ℕ) → writeNumber m r ≡ 0 → (carried m ≡ true) × (writtenOf m r ≡ imageOf m)
+unfolding writeNumber writtenOf holdsAt
+writes m r e = (not-false (carried m) (none-holds (writeChecks m r) refl .0 e 3), simp (eq-eqb (writeNumber m r) 0 e))
+
+written : (m : Message) (r : List ℕ) → length r ≡ 10 → carried m ≡ true → (writeNumber m r ≡ 0) × (writtenOf m r ≡ imageOf m)
+unfolding writeNumber writtenOf
+written m r n e = (simp (eq-eqb (length r) 10 n, e), simp (eq-eqb (length r) 10 n, e))
+
+-- ---- refusals: a number is given exactly when its condition holds and no earlier one's does (01, "Frame record")
+
+pub read-refuses-exactly : (r : List ℕ) (n : ℕ) → 0 < n → (numberOf (readOf r) ≡ n) ↔ FirstAt (readChecks r) n
+read-refuses-exactly r n h = rw (read-number r) (given-exactly (readChecks r) refl n h)
+
+pub reads-exactly : (r : List ℕ) → (numberOf (readOf r) ≡ 0) ↔ ((n : ℕ) → holdsAt (readChecks r) n ≡ false)
+reads-exactly r = rw (read-number r) (none-holds (readChecks r) refl)
+
+pub write-refuses-exactly : (m : Message) (r : List ℕ) (n : ℕ) → 0 < n → (writeNumber m r ≡ n) ↔ FirstAt (writeChecks m r) n
+unfolding writeNumber
+write-refuses-exactly m r n h = given-exactly (writeChecks m r) refl n h
+
+-- a refused record stays as it was
+pub refused-unchanged : (m : Message) (r : List ℕ) → (writeNumber m r ≡ 0 → ⊥) → writtenOf m r ≡ r
+unfolding writtenOf
+refused-unchanged m r h = simp (ne-eqb (writeNumber m r) 0 h)
+
+-- ---- the round trips (demand 2)
+
+-- reading what was written gives the message back
+pub written-is-read : (m : Message) (r : List ℕ) → writeNumber m r ≡ 0 → readOf (writtenOf m r) ≡ Got m
+written-is-read m r e = let w = writes m r e in rw (w .1) (written-read m (w .0))
+
+-- writing what was read gives the record, with its unused bytes cleared
+pub read-is-written : (r : List ℕ) (m : Message) → Bytes r → readOf r ≡ Got m
+    → (s : List ℕ) → length s ≡ 10 → (writeNumber m s ≡ 0) × (writtenOf m s ≡ clearedOf r)
+read-is-written r m b e s n =
+    let w = written m s n (read-is-carried r m e) in
+    (w .0, w .1 ∙ read-written r m b e)
+
+-- what is writable is exactly what is readable
+pub carried-exactly : (m : Message) → Octets m → (carried m ≡ true) ↔ ((r : List ℕ) × Bytes r × (readOf r ≡ Got m))
+carried-exactly m o = (λ e. (imageOf m, image-octets m o e, written-read m e), λ x. read-is-carried (x .0) m (x .2))
+
+-- a message is refused with 3 only if no record reads as it
+pub refused-is-unread : (m : Message) (s : List ℕ) → writeNumber m s ≡ 3 → (r : List ℕ) → readOf r ≡ Got m → ⊥
+unfolding writeNumber
+refused-is-unread m s e r g =
+    let y = read-is-carried r m g in
+    split (eqb (length s) 10)
+    (λ t. let z : _≡_ {A = ℕ} 0 3 = simp (t, y) at e in omega arith)
+    (λ t. let z : _≡_ {A = ℕ} 1 3 = simp t at e in omega arith)
+
+-- bytes beyond the DLC are not read
+pub unused-is-unread : (r : List ℕ) (m : Message) → Bytes r → readOf r ≡ Got m → readOf (clearedOf r) ≡ Got m
+unused-is-unread r m b e = rw (← read-written r m b e) (written-read m (read-is-carried r m e))
+
+-- ---- determination: two outcomes that meet a function's contract are equal
+pub header-determined : (κs : _) (args : _) (r r' : _) (s s' : _) → header-of.Post κs args r s → header-of.Post κs args r' s' → r ≡ r'
+header-determined κs args r r' s s' p q = p ∙ sym q
+
+pub read-determined : (κs : _) (args : _) (r r' : _) (s s' : _) → read.Post κs args r s → read.Post κs args r' s' → r ≡ r'
+read-determined κs args r r' s s' p q = p ∙ sym q
+
+pub write-determined : (κs : _) (args : _) (r r' : _) (s s' : _) → write.Post κs args r s → write.Post κs args r' s'
+    → (r ≡ r') × (now (s .1 .0) ≡ now (s' .1 .0))
+write-determined κs args r r' s s' p q = (p .0 ∙ sym (q .0), p .1 ∙ sym (q .1))
+
