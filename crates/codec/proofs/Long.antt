@@ -49,8 +49,16 @@ pub record Shape (f : ℕ) (p : List ℕ) : Type 0 where
 
 abbrev headerWith : Subject → ℕ → ℕ → Header
 headerWith u f n = record {
-    dir = u .dir; address = u .address; service = u .service; rtr = 0; dlc = n;
-    response = u .response; flag = f; object = u .object; id = u .id }
+  dir = u .dir;
+  address = u .address;
+  service = u .service;
+  rtr = 0;
+  dlc = n;
+  response = u .response;
+  flag = f;
+  object = u .object;
+  id = u .id;
+}
 
 module _ (u : Subject) (f : ℕ) (p : List ℕ) (s : Shape f p) where
   -- its header is read off the frame
@@ -99,18 +107,18 @@ module _ (u : Subject) (f : ℕ) (p : List ℕ) (s : Shape f p) where
   long-back =
       split (eqb f 1)
       (λ e.
-          let k = s .numbered (eqb-true f 1 e) in
-          let b = bytes-data (drop 2 p) (rw length-drop (omega (arith, s .room))) in
-          simp (e, b) (rw (two p k, eqb-true f 1 e)))
+      let k = s .numbered (eqb-true f 1 e) in
+      let b = bytes-data (drop 2 p) (rw length-drop (omega (arith, s .room))) in
+      simp (e, b) (rw (two p k, eqb-true f 1 e)))
       (λ e.
-          let z : f ≡ 0 = omega (arith, s .bit, eqb-false f 1 e) in
-          simp (e, bytes-data p (s .room)) (rw z))
+      let z : f ≡ 0 = omega (arith, s .bit, eqb-false f 1 e) in
+      simp (e, bytes-data p (s .room)) (rw z))
 
   pub long-carried : subjectFits u ≡ true → carried (longOf u f p) ≡ true
   unfolding longOf carried
   long-carried t =
       split (eqb f 1)
       (λ e.
-          let k : length (drop 2 p) ≤ 4 = rw length-drop (omega (arith, s .room)) in
-          simp (e, t, tidy-data (drop 2 p) (omega arith) 4 k))
+      let k : length (drop 2 p) ≤ 4 = rw length-drop (omega (arith, s .room)) in
+      simp (e, t, tidy-data (drop 2 p) (omega arith) 4 k))
       (λ e. simp (e, t, tidy-data p (s .room) 6 (s .room)))

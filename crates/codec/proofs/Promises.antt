@@ -67,6 +67,12 @@ read-is-written r m b e s n =
     let w = written m s n (read-is-carried r m e) in
     (w .0, w .1 ∙ read-written r m b e)
 
+-- a written record holds zeros beyond its DLC
+pub written-is-cleared : (m : Message) (r : List ℕ) → Octets m → writeNumber m r ≡ 0 → clearedOf (writtenOf m r) ≡ writtenOf m r
+written-is-cleared m r o e =
+    let w = writes m r e in
+    rw (w .1) (sym (read-written (imageOf m) m (image-octets m o (w .0)) (written-read m (w .0))))
+
 -- what is writable is exactly what is readable
 pub carried-exactly : (m : Message) → Octets m → (carried m ≡ true) ↔ ((r : List ℕ) × Bytes r × (readOf r ≡ Got m))
 carried-exactly m o = (λ e. (imageOf m, image-octets m o e, written-read m e), λ x. read-is-carried (x .0) m (x .2))
@@ -95,3 +101,13 @@ pub write-determined : (κs : _) (args : _) (r r' : _) (s s' : _) → write.Post
     → (r ≡ r') × (now (s .1 .0) ≡ now (s' .1 .0))
 write-determined κs args r r' s s' p q = (p .0 ∙ sym (q .0), p .1 ∙ sym (q .1))
 
+-- ---- nothing is asked of a caller
+
+pub header-asks-nothing : (κs : _) (args : _) → header-of.Asked κs args
+header-asks-nothing κs args = tt
+
+pub read-asks-nothing : (κs : _) (args : _) → read.Asked κs args
+read-asks-nothing κs args = tt
+
+pub write-asks-nothing : (κs : _) (args : _) → write.Asked κs args
+write-asks-nothing κs args = tt

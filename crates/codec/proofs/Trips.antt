@@ -44,7 +44,10 @@ plain-shape b t = record { bit = omega arith; room = omega (arith, bytes-length 
 
 fragment-shape : (n k : ℕ) (b : Data) → tidy 4 b ≡ true → Shape 1 (n ∷ k ∷ bytesOf b)
 fragment-shape n k b t = record {
-    bit = omega arith; room = omega (arith, bytes-length b (tidy-more 4 6 b (omega arith) t), tidy-most 4 b t); numbered = λ z. omega arith }
+  bit = omega arith;
+  room = omega (arith, bytes-length b (tidy-more 4 6 b (omega arith) t), tidy-most 4 b t);
+  numbered = λ z. omega arith;
+}
 
 pub written-read : (m : Message) → carried m ≡ true → readOf (imageOf m) ≡ Got m
 unfolding carried imageOf frameOf longOf
@@ -70,13 +73,19 @@ unfolding readOf
 read-by r m e =
     split (eqb (length r) 10)
     (λ t. split (eqb (firstOf (headerChecks (headerOf r))) 0)
-        (λ z. let w : Got (messageOf r) ≡ Got m = simp (t, z) at e in record { ten = eqb-true _ _ t; unrefused = eqb-true _ _ z; is = cc })
-        (λ z. let w : Refused (firstOf (headerChecks (headerOf r))) ≡ Got m = simp (t, z) at e in let z : _≡_ {A = ℕ} 0 1 = cc in absurd (omega arith)))
+    (λ z. let w : Got (messageOf r) ≡ Got m = simp (t, z) at e in record { ten = eqb-true _ _ t; unrefused = eqb-true _ _ z; is = cc })
+    (λ z. let w : Refused (firstOf (headerChecks (headerOf r))) ≡ Got m = simp (t, z) at e in let z : _≡_ {A = ℕ} 0 1 = cc in absurd (omega arith)))
     (λ t. let w : Refused 1 ≡ Got m = simp t at e in let z : _≡_ {A = ℕ} 0 1 = cc in absurd (omega arith))
 
 subject-of-fits : (h : Header) → Ranged h → firstOf (headerChecks h) ≡ 0 → Long h → subjectFits (subjectOf h) ≡ true
 subject-of-fits h g e l = subject-fits (subjectOf h) .1 (record {
-    dir = g .dir; address = passed h e .address; named = l .service; service = g .service; response = g .response; object = g .object })
+  dir = g .dir;
+  address = passed h e .address;
+  named = l .service;
+  service = g .service;
+  response = g .response;
+  object = g .object;
+})
 
 module _ (r : List ℕ) (n : length r ≡ 10) (e : firstOf (headerChecks (headerOf r)) ≡ 0) where
   long-shape : (h : Long (headerOf r)) → Shape (headerOf r .flag) (take (headerOf r .dlc - 2) (drop 4 r))
@@ -90,9 +99,9 @@ module _ (r : List ℕ) (n : length r ≡ 10) (e : firstOf (headerChecks (header
       split (eqb (headerOf r .dlc) 0)
       (λ z. simp z (short-fits _ _ _ .1 (record { dir = ranged r .dir; address = passed (headerOf r) e .address; service = ranged r .service })))
       (λ z.
-          let h = long-of (headerOf r) e (eqb-false _ 0 z) in
-          simp z (long-carried (subjectOf (headerOf r)) (headerOf r .flag) (take (headerOf r .dlc - 2) (drop 4 r)) (long-shape h)
-            (subject-of-fits (headerOf r) (ranged r) e h)))
+      let h = long-of (headerOf r) e (eqb-false _ 0 z) in
+      simp z (long-carried (subjectOf (headerOf r)) (headerOf r .flag) (take (headerOf r .dlc - 2) (drop 4 r)) (long-shape h)
+      (subject-of-fits (headerOf r) (ranged r) e h)))
 
 module _ (a b c i : ℕ) (l : List ℕ) (n : length l ≡ 6) (ha : a < 256) (hb : b < 256) (hc : c < 256)
     (e : firstOf (headerChecks (headerOf (a ∷ b ∷ c ∷ i ∷ l))) ≡ 0) where
@@ -113,7 +122,7 @@ module _ (a b c i : ℕ) (l : List ℕ) (n : length l ≡ 6) (ha : a < 256) (hb 
 
   long-frame : Long (headerOf (a ∷ b ∷ c ∷ i ∷ l))
       → longFrame (subjectOf (headerOf (a ∷ b ∷ c ∷ i ∷ l))) (headerOf (a ∷ b ∷ c ∷ i ∷ l) .flag) (take (headerOf (a ∷ b ∷ c ∷ i ∷ l) .dlc - 2) l)
-        ≡ take (headerOf (a ∷ b ∷ c ∷ i ∷ l) .dlc + 2) (a ∷ b ∷ c ∷ i ∷ l)
+      ≡ take (headerOf (a ∷ b ∷ c ∷ i ∷ l) .dlc + 2) (a ∷ b ∷ c ∷ i ∷ l)
   unfolding headerOf longFrame
   long-frame h =
       let p = take (b / 1 % 16 - 2) l in
@@ -138,9 +147,9 @@ frame-back (a ∷ b ∷ c ∷ i ∷ l) h n e =
     split (eqb (headerOf r .dlc) 0)
     (λ z. simp z (short-back a b c i l k (h 0) (h 1) (h 2) e (eqb-true _ 0 z)))
     (λ z.
-        let g = long-of (headerOf r) e (eqb-false _ 0 z) in
-        simp z (long-back (subjectOf (headerOf r)) (headerOf r .flag) (take (headerOf r .dlc - 2) l) (long-shape r n e g)
-          ∙ long-frame a b c i l k (h 0) (h 1) (h 2) e g))
+    let g = long-of (headerOf r) e (eqb-false _ 0 z) in
+    simp z (long-back (subjectOf (headerOf r)) (headerOf r .flag) (take (headerOf r .dlc - 2) l) (long-shape r n e g)
+    ∙ long-frame a b c i l k (h 0) (h 1) (h 2) e g))
 
 pub read-written : (r : List ℕ) (m : Message) → Bytes r → readOf r ≡ Got m → imageOf m ≡ clearedOf r
 unfolding imageOf clearedOf
@@ -174,4 +183,4 @@ image-octets (Plain u b) o e =
 image-octets (Fragment u n k b) o e =
     let f = and-eq-true-iff (subjectFits u) (tidy 4 b) .0 e in
     bytes-padded 10 (longFrame u 1 (n ∷ k ∷ bytesOf b)) (long-octets u 1 (n ∷ k ∷ bytesOf b) (fragment-shape n k b (f .1)) (subject-fits u .0 (f .0)) (o .0)
-      (bytes-cons n (k ∷ bytesOf b) (o .1) (bytes-cons k (bytesOf b) (o .2) (bytes-take (b .len) (placesOf b) (o .3)))))
+    (bytes-cons n (k ∷ bytesOf b) (o .1) (bytes-cons k (bytesOf b) (o .2) (bytes-take (b .len) (placesOf b) (o .3)))))

@@ -1,17 +1,10 @@
 -- The fields of a record's first four bytes (01, "Frame record"; 000, figures 3.2 and 3.13 to 3.15).
-use Prim.Native.Nat.{ℕ, _+_, _-_, _/_, _%_, _^_}
+use Prim.Native.Nat.{ℕ}
 use mathlib.Core.List.{List}
-use lib.ListN.{getD}
+use Rattle.laws.specs.Bytes.{bits, byteAt}
 use Rattle.codec.specs.declared.Header.{Header}
 
--- the byte at a place; a record too short to have it reads it as 0
-abbrev pub byteAt : List ℕ → ℕ → ℕ
-byteAt r i = getD r i 0
-
--- bits high to low of a byte, as a number
-abbrev pub bits : ℕ → ℕ → ℕ → ℕ
-bits high low b = b / 2 ^ low % 2 ^ (high + 1 - low)
-
+-- a record too short to have a byte reads it as 0 (byteAt)
 unfoldable pub headerOf : List ℕ → Header
 headerOf r = record {
   dir = bits 7 7 (byteAt r 0);  -- byte 0: Dir/Pri, 0 where the address is the destination (3.2.1.1)

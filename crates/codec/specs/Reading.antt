@@ -4,6 +4,7 @@ use mathlib.Core.Bool.{Bool, cond, not, _&&_, _||_}
 use mathlib.Core.List.{List, [], _∷_}
 use lib.ListN.{length, getD, take, drop}
 use lib.Dec.{ltb, leb, eqb}
+use Rattle.laws.specs.Bytes.{byteAt}
 use Rattle.laws.specs.Checks.{Check, firstOf}
 use Rattle.codec.specs.declared.Header.{Header}
 use Rattle.codec.specs.declared.Subject.{Subject}
@@ -12,7 +13,7 @@ use Rattle.codec.specs.declared.Message.{Message}
 use Rattle.codec.specs.declared.Message.the-variants.{Short, Plain, Fragment}
 use Rattle.codec.specs.declared.Answer.{Answer}
 use Rattle.codec.specs.declared.Answer.the-variants.{Got, Refused}
-use Rattle.codec.specs.Fields.{byteAt, headerOf}
+use Rattle.codec.specs.Fields.{headerOf}
 
 -- "RTR 1, DLC over 8, or address 126 or 127" (check 3)
 abbrev pub barred : Header → Bool

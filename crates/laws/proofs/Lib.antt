@@ -1,3 +1,5 @@
 pub mod Tests
 pub mod Checks
 pub mod Bytes
+pub mod Put
+pub mod Mixing

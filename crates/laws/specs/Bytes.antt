@@ -1,9 +1,17 @@
--- Lists of bytes.
-use Prim.Native.Nat.{ℕ, _-_, _+_, _<_}
+-- Bytes, and lists of them.
+use Prim.Native.Nat.{ℕ, _+_, _-_, _/_, _%_, _^_, _<_}
 use mathlib.Core.Bool.{Bool, true, _&&_}
 use mathlib.Core.List.{List, [], _∷_, _++_}
 use lib.ListN.{length, getD, replicate}
 use lib.Dec.{eqb}
+
+-- bits high to low of a number
+abbrev pub bits : ℕ → ℕ → ℕ → ℕ
+bits high low n = n / 2 ^ low % 2 ^ (high + 1 - low)
+
+-- the byte at a place; 0 where the list is too short to have it
+abbrev pub byteAt : List ℕ → ℕ → ℕ
+byteAt l i = getD l i 0
 
 -- each element is a byte
 abbrev pub Bytes : List ℕ → Type 0

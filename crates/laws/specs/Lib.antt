@@ -1,2 +1,4 @@
 pub mod Checks
 pub mod Bytes
+pub mod Put
+pub mod Mixing

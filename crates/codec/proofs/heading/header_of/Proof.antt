@@ -3,9 +3,6 @@ use Rattle.codec.specs.Fields.{headerOf}
 use borrow.Author.Needs.{needs}
 use Rattle.codec.proofs.heading.header_of.Statement.{statement}
 use Rattle.codec.proofs.heading.header_of.Tie as tie
-use Rattle.codec.proofs.heading.header_of.Reads as reads
-use Rattle.codec.proofs.heading.header_of.Lts as lts
-use Rattle.codec.proofs.octets.byte_at.Reads as byte-at-reads
 
 byte-at-requires : tie.Need-byte-at-requires
 byte-at-requires c κs = search needs

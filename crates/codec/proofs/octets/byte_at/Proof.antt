@@ -2,8 +2,6 @@ use lib.ListN.{List·getD-eq-default}
 use borrow.Author.Needs.{needs}
 use Rattle.codec.proofs.octets.byte_at.Statement.{statement}
 use Rattle.codec.proofs.octets.byte_at.Tie as tie
-use Rattle.codec.proofs.octets.byte_at.Reads as reads
-use Rattle.codec.proofs.octets.byte_at.Lts as lts
 
 shared-slice-read-result : tie.Need-shared-slice-read-result
 shared-slice-read-result c = search needs

@@ -2,9 +2,6 @@ use Rattle.codec.specs.Reading.{dataOf}
 use borrow.Author.Needs.{needs}
 use Rattle.codec.proofs.reading.data_of.Statement.{statement}
 use Rattle.codec.proofs.reading.data_of.Tie as tie
-use Rattle.codec.proofs.reading.data_of.Reads as reads
-use Rattle.codec.proofs.reading.data_of.Lts as lts
-use Rattle.codec.proofs.octets.byte_at.Reads as byte-at-reads
 
 cast-t3 : tie.Need-cast-t3
 cast-t3 c = search needs

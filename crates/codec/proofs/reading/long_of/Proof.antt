@@ -5,9 +5,6 @@ use Rattle.laws.proofs.Bytes.{take-rest}
 use borrow.Author.Needs.{needs}
 use Rattle.codec.proofs.reading.long_of.Statement.{statement}
 use Rattle.codec.proofs.reading.long_of.Tie as tie
-use Rattle.codec.proofs.reading.long_of.Reads as reads
-use Rattle.codec.proofs.reading.long_of.Lts as lts
-use Rattle.codec.proofs.reading.data_of.Reads as data-of-reads
 
 data-of-requires : tie.Need-data-of-requires
 data-of-requires c κs = search needs
@@ -23,10 +20,10 @@ shared-slice-read-total : tie.Need-shared-slice-read-total
 shared-slice-read-total c = omega (arith, c .before .before .before .before .pre .1 (c .before .before .if1 .left))
 
 sub-data-of : tie.Need-sub-data-of
-sub-data-of c = c .before .before .before .before .pre .1 (c .before .before .if1 .left)
+sub-data-of c = omega (arith, c .before .before .before .before .pre .1 (c .before .before .if1 .left))
 
 part-data-of-start : tie.Need-part-data-of-start
-part-data-of-start c = c .before .before .before .before .pre .1 (c .before .before .if1 .left)
+part-data-of-start c = omega (arith, c .before .before .before .before .pre .1 (c .before .before .if1 .left))
 
 part-data-of-end : tie.Need-part-data-of-end
 part-data-of-end c = search needs

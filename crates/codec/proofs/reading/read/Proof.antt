@@ -9,13 +9,6 @@ use Rattle.codec.proofs.Headers.{Long, long-of}
 use borrow.Author.Needs.{needs}
 use Rattle.codec.proofs.reading.read.Statement.{statement}
 use Rattle.codec.proofs.reading.read.Tie as tie
-use Rattle.codec.proofs.reading.read.Reads as reads
-use Rattle.codec.proofs.reading.read.Lts as lts
-use Rattle.codec.proofs.heading.header_of.Reads as header-of-reads
-use Rattle.codec.proofs.reading.long_of.Reads as long-of-reads
-use Rattle.codec.proofs.reading.refusal.Reads as refusal-reads
-use Rattle.codec.proofs.reading.subject_of.Reads as subject-of-reads
-use Rattle.codec.proofs.octets.wide.Reads as wide-reads
 
 returns : tie.Need-returns
 unfolding readOf

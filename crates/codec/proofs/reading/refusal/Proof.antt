@@ -1,8 +1,6 @@
 use Rattle.laws.proofs.Tests.{tests}
 use Rattle.codec.proofs.reading.refusal.Statement.{statement}
 use Rattle.codec.proofs.reading.refusal.Tie as tie
-use Rattle.codec.proofs.reading.refusal.Reads as reads
-use Rattle.codec.proofs.reading.refusal.Lts as lts
 
 returns : tie.Need-returns
 returns c = search tests

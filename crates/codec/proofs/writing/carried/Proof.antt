@@ -3,10 +3,6 @@ use Rattle.codec.specs.Writing.{carried}
 use borrow.Author.Needs.{needs}
 use Rattle.codec.proofs.writing.carried.Statement.{statement}
 use Rattle.codec.proofs.writing.carried.Tie as tie
-use Rattle.codec.proofs.writing.carried.Reads as reads
-use Rattle.codec.proofs.writing.carried.Lts as lts
-use Rattle.codec.proofs.writing.long_fits.Reads as long-fits-reads
-use Rattle.codec.proofs.writing.short_fits.Reads as short-fits-reads
 
 enum-known-m : tie.Need-enum-known-m
 enum-known-m c = search needs

@@ -9,11 +9,6 @@ use Rattle.codec.specs.Writing.{subjectFits, tidy, bytesOf, carried, lon
 use borrow.Author.Needs.{needs}
 use Rattle.codec.proofs.writing.image.Statement.{statement}
 use Rattle.codec.proofs.writing.image.Tie as tie
-use Rattle.codec.proofs.writing.image.Reads as reads
-use Rattle.codec.proofs.writing.image.Lts as lts
-use Rattle.codec.proofs.writing.long_image.Reads as long-image-reads
-use Rattle.codec.proofs.writing.prefixed.Reads as prefixed-reads
-use Rattle.codec.proofs.writing.short_image.Reads as short-image-reads
 
 enum-known-m : tie.Need-enum-known-m
 enum-known-m c = search needs

@@ -1,10 +1,6 @@
 use borrow.Author.Needs.{needs}
 use Rattle.codec.proofs.writing.long_fits.Statement.{statement}
 use Rattle.codec.proofs.writing.long_fits.Tie as tie
-use Rattle.codec.proofs.writing.long_fits.Reads as reads
-use Rattle.codec.proofs.writing.long_fits.Lts as lts
-use Rattle.codec.proofs.writing.subject_fits.Reads as subject-fits-reads
-use Rattle.codec.proofs.writing.tidy.Reads as tidy-reads
 
 subject-fits-requires : tie.Need-subject-fits-requires
 subject-fits-requires c κs = search needs

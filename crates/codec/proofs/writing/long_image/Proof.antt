@@ -6,8 +6,6 @@ use Rattle.codec.proofs.Images.{long-bytes}
 use borrow.Author.Needs.{needs}
 use Rattle.codec.proofs.writing.long_image.Statement.{statement}
 use Rattle.codec.proofs.writing.long_image.Tie as tie
-use Rattle.codec.proofs.writing.long_image.Reads as reads
-use Rattle.codec.proofs.writing.long_image.Lts as lts
 
 mul-t4 : tie.Need-mul-t4
 mul-t4 c = omega (arith, subject-fits _ .0 (c .before .pre .0), tidy-most 6 _ (c .before .pre .2), c .before .pre)

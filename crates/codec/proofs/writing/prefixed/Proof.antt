@@ -7,8 +7,6 @@ use Rattle.codec.specs.Writing.{bytesOf}
 use Rattle.codec.proofs.Datas.{tidy-most, tidy-more, bytes-length, byte-place}
 use Rattle.codec.proofs.writing.prefixed.Statement.{statement}
 use Rattle.codec.proofs.writing.prefixed.Tie as tie
-use Rattle.codec.proofs.writing.prefixed.Reads as reads
-use Rattle.codec.proofs.writing.prefixed.Lts as lts
 
 add-t4 : tie.Need-add-t4
 add-t4 c = omega (arith, tidy-most 4 _ (c .before .pre))

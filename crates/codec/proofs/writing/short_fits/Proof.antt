@@ -2,8 +2,6 @@ use Rattle.laws.proofs.Tests.{tests}
 use Rattle.codec.specs.Writing.{shortFits}
 use Rattle.codec.proofs.writing.short_fits.Statement.{statement}
 use Rattle.codec.proofs.writing.short_fits.Tie as tie
-use Rattle.codec.proofs.writing.short_fits.Reads as reads
-use Rattle.codec.proofs.writing.short_fits.Lts as lts
 
 returns : tie.Need-returns
 unfolding shortFits

@@ -3,8 +3,6 @@ use native.Mathlib.Omega.{arith}
 use Rattle.codec.proofs.Fits.{short-fits}
 use Rattle.codec.proofs.writing.short_image.Statement.{statement}
 use Rattle.codec.proofs.writing.short_image.Tie as tie
-use Rattle.codec.proofs.writing.short_image.Reads as reads
-use Rattle.codec.proofs.writing.short_image.Lts as lts
 
 mul-t4 : tie.Need-mul-t4
 mul-t4 c = omega (arith, short-fits _ _ _ .0 (c .pre))

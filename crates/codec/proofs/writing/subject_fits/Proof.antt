@@ -2,8 +2,6 @@ use Rattle.laws.proofs.Tests.{tests}
 use Rattle.codec.specs.Writing.{subjectFits}
 use Rattle.codec.proofs.writing.subject_fits.Statement.{statement}
 use Rattle.codec.proofs.writing.subject_fits.Tie as tie
-use Rattle.codec.proofs.writing.subject_fits.Reads as reads
-use Rattle.codec.proofs.writing.subject_fits.Lts as lts
 
 returns : tie.Need-returns
 unfolding subjectFits

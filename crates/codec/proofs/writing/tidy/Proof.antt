@@ -3,10 +3,6 @@ use Rattle.codec.specs.Writing.{tidy}
 use borrow.Author.Needs.{needs}
 use Rattle.codec.proofs.writing.tidy.Statement.{statement}
 use Rattle.codec.proofs.writing.tidy.Tie as tie
-use Rattle.codec.proofs.writing.tidy.Reads as reads
-use Rattle.codec.proofs.writing.tidy.Lts as lts
-use Rattle.codec.proofs.octets.wide.Reads as wide-reads
-use Rattle.codec.proofs.writing.zeros_from.Reads as zeros-from-reads
 
 returns : tie.Need-returns
 unfolding tidy

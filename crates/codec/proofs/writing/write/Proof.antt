@@ -9,11 +9,6 @@ use Rattle.codec.specs.Writing.{carried, writeNumber, writtenOf}
 use borrow.Author.Needs.{needs}
 use Rattle.codec.proofs.writing.write.Statement.{statement}
 use Rattle.codec.proofs.writing.write.Tie as tie
-use Rattle.codec.proofs.writing.write.Reads as reads
-use Rattle.codec.proofs.writing.write.Lts as lts
-use Rattle.bytes.proofs.copy.Reads as copy-reads
-use Rattle.codec.proofs.writing.carried.Reads as carried-reads
-use Rattle.codec.proofs.writing.image.Reads as image-reads
 
 returns : tie.Need-returns
 unfolding writeNumber writtenOf

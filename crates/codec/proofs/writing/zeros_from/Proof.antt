@@ -7,8 +7,6 @@ use Rattle.laws.specs.Bytes.{zeros}
 use Rattle.laws.proofs.Bytes.{zeros-step, zeros-end}
 use Rattle.codec.proofs.writing.zeros_from.Statement.{statement}
 use Rattle.codec.proofs.writing.zeros_from.Tie as tie
-use Rattle.codec.proofs.writing.zeros_from.Reads as reads
-use Rattle.codec.proofs.writing.zeros_from.Lts as lts
 
 abbrev Inv-loop : tie.InvT-loop
 Inv-loop places start i₀ i = zeros (drop i places) ≡ zeros (drop start places)

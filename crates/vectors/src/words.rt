@@ -1,0 +1,97 @@
+// What was read, in words.
+use codec::Data;
+use codec::Message;
+use codec::Subject;
+use libc::STDOUT_FILENO;
+
+pub(crate) fn print_text(text: &[u8]) {
+    io::write_all(STDOUT_FILENO, text);
+}
+
+pub(crate) fn print_number(before: &[u8], n: u8) {
+    print_text(before);
+    io::print_decimal(STDOUT_FILENO, n as u64);
+}
+
+// The label, without the blanks that fill it up.
+pub(crate) fn print_label(label: [u8; 8]) {
+    let mut n = 8;
+    while 0 < n {
+        if label[n - 1] != b' ' {
+            print_text(&label[..n]);
+            return;
+        }
+        n -= 1;
+    }
+}
+
+// Dir/Pri 1 means that the address is the source (000, 3.2.1.1).
+fn print_address(dir: u8, address: u8) {
+    if dir == 1 {
+        print_number(b" from ", address);
+    } else {
+        print_number(b" to ", address);
+    }
+}
+
+// 000, figure 3.8.
+fn print_response(response: u8) {
+    match response {
+        0 => print_text(b" request"),
+        1 => print_text(b" successful"),
+        2 => print_text(b" error"),
+        _ => print_text(b" wait"),
+    }
+}
+
+fn print_subject(u: Subject) {
+    print_address(u.dir, u.address);
+    print_number(b" service ", u.service);
+    print_response(u.response);
+    print_number(b" object ", u.object);
+    print_number(b" id ", u.id);
+}
+
+fn print_byte(x: u8) {
+    print_text(b" ");
+    io::print_hex(STDOUT_FILENO, x as u64, 2);
+}
+
+fn print_data(d: Data) {
+    let places = [d.b0, d.b1, d.b2, d.b3, d.b4, d.b5];
+    let n = d.len as usize;
+    print_text(b" data");
+    for i in 0..6 {
+        if i < n {
+            print_byte(places[i]);
+        }
+    }
+}
+
+pub(crate) fn print_message(m: Message) {
+    match m {
+        Message::Short {
+            dir,
+            address,
+            service,
+        } => {
+            print_address(dir, address);
+            print_number(b" short ", service);
+        }
+        Message::Plain { about, body } => {
+            print_subject(about);
+            print_data(body);
+        }
+        Message::Fragment {
+            about,
+            number,
+            total,
+            body,
+        } => {
+            print_subject(about);
+            print_number(b" fragment ", number);
+            print_number(b" of ", total);
+            print_data(body);
+        }
+    }
+}
