@@ -6,9 +6,9 @@ use mathlib.Mathlib.Data.Bool.Basic.{or-eq-false-eq-eq-false-and-eq-false as nei
 use native.Mathlib.Omega.{arith}
 use mathlib.Core.List.{List}
 use lib.Dec.{ltb, leb, eqb}
-use borrow.Author.Tests.{ltb-false, leb-false, eqb-false, eq-eqb, le-leb}
+use borrow.Author.Tests.{ltb-false, eqb-true, eqb-false, eq-eqb, ne-eqb, le-leb, le-ltb}
 use Rattle.laws.specs.Checks.{firstOf, holdsAt}
-use Rattle.laws.proofs.Tests.{not-both}
+use Rattle.laws.proofs.Tests.{split, not-both}
 use Rattle.laws.proofs.Checks.{none-holds}
 use Rattle.codec.specs.declared.Header.{Header}
 use Rattle.codec.specs.Fields.{headerOf}
@@ -67,3 +67,13 @@ long-of h e z =
       service = ltb-false (h .service) 4 (not-both (leb 2 (h .dlc)) (ltb (h .service) 4) (a .1) two);
       flagged = λ f. ltb-false (h .dlc) 4 (not-both (leb 2 (h .dlc) && eqb (h .flag) 1) (ltb (h .dlc) 4) (none 8) (simp (two, eq-eqb (h .flag) 1 f)));
     }
+
+-- and the other way round
+pub long-passes : (h : Header) → barred h ≡ false → 2 ≤ h .dlc → 4 ≤ h .service → (h .flag ≡ 1 → 4 ≤ h .dlc) → firstOf (headerChecks h) ≡ 0
+long-passes h b l s f =
+    let one = ne-eqb (h .dlc) 1 (omega arith) in
+    let two = le-leb 2 (h .dlc) l in
+    let four = le-ltb (h .service) 4 s in
+    split (eqb (h .flag) 1)
+    (λ e. simp (b, one, two, four, e, le-ltb (h .dlc) 4 (f (eqb-true (h .flag) 1 e))))
+    (λ e. simp (b, one, two, four, e))

@@ -6,10 +6,12 @@ use mathlib.Core.List.{List, [], _∷_, _++_}
 use native.Mathlib.Omega.{arith}
 use lib.ListN.{length, replicate}
 use Rattle.laws.specs.Bytes.{padded}
+use Rattle.laws.proofs.Bytes.{length-padded}
 use Rattle.codec.specs.declared.Subject.{Subject}
 use Rattle.codec.specs.declared.Data.{Data}
+use Rattle.codec.specs.declared.Message.the-variants.{Plain, Fragment}
 use Rattle.codec.specs.Reading.{dataOf}
-use Rattle.codec.specs.Writing.{placesOf, bytesOf, tidy, longFrame}
+use Rattle.codec.specs.Writing.{placesOf, bytesOf, tidy, longFrame, frameOf, imageOf}
 use Rattle.codec.proofs.Datas.{tidy-most, tidy-more, tidy-data, bytes-data, bytes-length, bytes-padded}
 
 -- four bytes, then what stands behind the ID, padded
@@ -20,6 +22,9 @@ unfolding longFrame
 long-padded u flag p h =
     let q : 10 - suc (suc (suc (suc (length p)))) ≡ 6 - length p = omega arith in
     rw q
+
+pub long-length : (u : Subject) (flag : ℕ) (p : List ℕ) → length p ≤ 6 → length (padded 10 (longFrame u flag p)) ≡ 10
+long-length u flag p h = ap length (long-padded u flag p h) ∙ ap (λ (k : ℕ). suc (suc (suc (suc k)))) (length-padded 6 p h)
 
 pub long-bytes : (u : Subject) (flag : ℕ) (d : Data) → tidy 6 d ≡ true
     → padded 10 (longFrame u flag (bytesOf d))
@@ -34,3 +39,12 @@ pub fragment-payload : (n k : ℕ) (d : Data) → tidy 4 d ≡ true
 fragment-payload n k d t =
     let h : length (n ∷ k ∷ bytesOf d) ≤ 6 = omega (arith, bytes-length d (tidy-more 4 6 d (omega arith) t), tidy-most 4 d t) in
     (tidy-data (n ∷ k ∷ bytesOf d) h 6 h, bytes-data (n ∷ k ∷ bytesOf d) h)
+
+-- a frame made of so many bytes is a record of ten, whatever its other fields hold
+pub plain-length : (u : Subject) (l : List ℕ) → length l ≤ 6 → length (imageOf (Plain u (dataOf l))) ≡ 10
+unfolding imageOf frameOf
+plain-length u l h = rw (bytes-data l h) (long-length u 0 l h)
+
+pub fragment-length : (u : Subject) (n k : ℕ) (l : List ℕ) → length l ≤ 4 → length (imageOf (Fragment u n k (dataOf l))) ≡ 10
+unfolding imageOf frameOf
+fragment-length u n k l h = rw (bytes-data l (omega arith)) (long-length u 1 (n ∷ k ∷ l) (omega arith))

@@ -8,9 +8,8 @@ use lib.ListN.{length, getD, take, drop, replicate, length-drop}
 use lib.Seq.{take-at}
 use lib.Dec.{ltb, leb, eqb}
 use borrow.Author.Tests.{eqb-true, eqb-false, eq-eqb, ne-eqb, le-ltb, le-leb, lt-leb}
-use Rattle.laws.specs.Bytes.{padded}
+use Rattle.laws.specs.Bytes.{byteAt, padded}
 use Rattle.laws.specs.Checks.{firstOf}
-use Rattle.laws.proofs.Bytes.{length-padded}
 use Rattle.laws.proofs.Tests.{tests, split}
 use Rattle.codec.specs.declared.Header.{Header}
 use Rattle.codec.specs.declared.Subject.{Subject}
@@ -20,11 +19,12 @@ use Rattle.codec.specs.declared.Answer.the-variants.{Got, Refused}
 use Rattle.codec.specs.declared.Message.{Message}
 use Rattle.codec.specs.declared.Message.the-variants.{Short, Plain, Fragment}
 use Rattle.codec.specs.Fields.{headerOf}
-use Rattle.codec.specs.Reading.{headerChecks, subjectOf, dataOf, longOf, messageOf, readOf}
+use Rattle.codec.specs.Reading.{headerChecks, subjectOf, dataOf, payloadOf, longOf, messageOf, readOf}
 use Rattle.codec.specs.Writing.{bytesOf, tidy, subjectFits, longFrame, frameOf, carried}
+use Rattle.codec.proofs.Headers.{long-passes}
 use Rattle.codec.proofs.Datas.{bytes-data, tidy-data, data-bytes}
 use Rattle.codec.proofs.Fits.{SubjectFits}
-use Rattle.codec.proofs.Images.{long-padded}
+use Rattle.codec.proofs.Images.{long-padded, long-length}
 
 -- a record that no check refuses is read
 pub got : (r : List ℕ) → length r ≡ 10 → firstOf (headerChecks (headerOf r)) ≡ 0 → readOf r ≡ Got (messageOf r)
@@ -82,19 +82,14 @@ module _ (u : Subject) (f : ℕ) (p : List ℕ) (s : Shape f p) where
       let h = s .room in
       let n0 = le-ltb 8 (length p + 2) (omega arith) in
       let n1 = le-ltb 125 (u .address) (t .address) in
-      let n2 = ne-eqb (length p + 2) 1 (omega arith) in
-      let n3 = le-leb 2 (length p + 2) (omega arith) in
-      let n4 = le-ltb (u .service) 4 (t .named) in
-      split (eqb f 1)
-      (λ e. simp (n0, n1, n2, n3, n4, e, le-ltb (length p + 2) 4 (omega (arith, s .numbered (eqb-true f 1 e)))))
-      (λ e. simp (n0, n1, n2, n3, n4, e))
+      long-passes (headerWith u f (length p + 2)) (simp (n0, n1)) (omega arith) (t .named) (λ e. omega (arith, s .numbered e))
 
   -- READING what was written
   pub long-read : SubjectFits u → readOf (padded 10 (longFrame u f p)) ≡ Got (longOf u f p)
   long-read t =
       let r = padded 10 (longFrame u f p) in
       let w = long-padded u f p (s .room) in
-      let n : length r ≡ 10 = ap length w ∙ ap (λ (k : ℕ). suc (suc (suc (suc k)))) (length-padded 6 p (s .room)) in
+      let n : length r ≡ 10 = long-length u f p (s .room) in
       let h = long-header t in
       let m = message-long r (headerWith u f (length p + 2)) h (omega arith) in
       let d : drop 4 r ≡ padded 6 p = ap (drop 4) w in
@@ -122,3 +117,14 @@ module _ (u : Subject) (f : ℕ) (p : List ℕ) (s : Shape f p) where
       let k : length (drop 2 p) ≤ 4 = rw length-drop (omega (arith, s .room)) in
       simp (e, t, tidy-data (drop 2 p) (omega arith) 4 k))
       (λ e. simp (e, t, tidy-data p (s .room) 6 (s .room)))
+
+-- the flag tells a fragment from a plain message
+pub message-plain : (r : List ℕ) → (headerOf r .dlc ≡ 0 → ⊥) → (headerOf r .flag ≡ 1 → ⊥)
+    → messageOf r ≡ Plain (subjectOf (headerOf r)) (dataOf (payloadOf r))
+unfolding longOf
+message-plain r z f = message-long r (headerOf r) refl z ∙ simp (ne-eqb (headerOf r .flag) 1 f)
+
+pub message-fragment : (r : List ℕ) → (headerOf r .dlc ≡ 0 → ⊥) → headerOf r .flag ≡ 1
+    → messageOf r ≡ Fragment (subjectOf (headerOf r)) (byteAt (payloadOf r) 0) (byteAt (payloadOf r) 1) (dataOf (drop 2 (payloadOf r)))
+unfolding longOf
+message-fragment r z f = message-long r (headerOf r) refl z ∙ simp (eq-eqb (headerOf r .flag) 1 f)

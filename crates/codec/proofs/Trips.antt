@@ -23,7 +23,7 @@ use Rattle.codec.specs.Fields.{headerOf}
 use Rattle.codec.specs.Reading.{headerChecks, readChecks, subjectOf, shortOf, dataOf, longOf, messageOf, readOf}
 use Rattle.codec.specs.Writing.{Octets, placesOf, bytesOf, tidy, subjectFits, shortFits, canHeader, longFrame, frameOf, imageOf, carried, clearedOf}
 use Rattle.codec.proofs.Headers.{Ranged, ranged, passed, Long, long-of}
-use Rattle.codec.proofs.Datas.{tidy-most, tidy-more, bytes-length, data-bytes}
+use Rattle.codec.proofs.Datas.{tidy-most, tidy-more, tidy-data, bytes-length, data-bytes}
 use Rattle.codec.proofs.Fits.{SubjectFits, subject-fits, ShortFits, short-fits}
 use Rattle.codec.proofs.Long.{Shape, got, message-long, long-read, long-back, long-carried}
 
@@ -184,3 +184,13 @@ image-octets (Fragment u n k b) o e =
     let f = and-eq-true-iff (subjectFits u) (tidy 4 b) .0 e in
     bytes-padded 10 (longFrame u 1 (n ∷ k ∷ bytesOf b)) (long-octets u 1 (n ∷ k ∷ bytesOf b) (fragment-shape n k b (f .1)) (subject-fits u .0 (f .0)) (o .0)
     (bytes-cons n (k ∷ bytesOf b) (o .1) (bytes-cons k (bytesOf b) (o .2) (bytes-take (b .len) (placesOf b) (o .3)))))
+
+-- ---- messages made of lists of bytes, for who answers
+
+pub plain-carried : (u : Subject) (l : List ℕ) → SubjectFits u → length l ≤ 6 → carried (Plain u (dataOf l)) ≡ true
+unfolding carried
+plain-carried u l f h = simp (subject-fits u .1 f, tidy-data l h 6 h)
+
+pub fragment-carried : (u : Subject) (n k : ℕ) (l : List ℕ) → SubjectFits u → length l ≤ 4 → carried (Fragment u n k (dataOf l)) ≡ true
+unfolding carried
+fragment-carried u n k l f h = simp (subject-fits u .1 f, tidy-data l (omega arith) 4 h)

@@ -2,12 +2,12 @@
 use Prim.Native.Nat.{ℕ, zero, _<_, _≤_}
 use mathlib.Core.Path.{_≡_, refl, sym, _∙_}
 use mathlib.Core.Bool.{Bool, true, false, cond, _&&_, and-eq-true-iff}
-use mathlib.Core.List.{List, [], _∷_}
+use mathlib.Core.List.{List, [], _∷_, _++_}
 use mathlib.Core.Logic.{_↔_}
 use native.Mathlib.Omega.{arith}
-use lib.Dec.{ltb, eqb}
-use borrow.Author.Tests.{ltb-true, ltb-false, eqb-true, eqb-false, eq-eqb, ne-eqb}
-use Rattle.laws.specs.Checks.{Check, firstOf, holdsAt, risesFrom}
+use lib.Dec.{ltb, leb, eqb}
+use borrow.Author.Tests.{ltb-true, ltb-false, leb-true, eqb-true, eqb-false, eq-eqb, ne-eqb}
+use Rattle.laws.specs.Checks.{Check, firstOf, holdsAt, risesFrom, mostIs}
 use Rattle.laws.proofs.Tests.{split, clash}
 
 -- what a table that rises says of its first row and of the rest
@@ -110,3 +110,25 @@ none-holds cs r = (
       (λ p. clash (given 0 cs r (firstOf cs) (ltb-true 0 (firstOf cs) p) refl .0) (h (firstOf cs)))
       (λ p. omega (arith, ltb-false 0 (firstOf cs) p)),
 )
+
+-- a table with more rows behind it: they answer where it gives 0
+pub first-append : (k : ℕ) (cs ds : List Check) → risesFrom k cs ≡ true
+    → firstOf (cs ++ ds) ≡ cond (eqb (firstOf cs) 0) (firstOf ds) (firstOf cs)
+first-append k [] ds r = refl
+first-append k (c ∷ cs) ds r =
+    let a = rising k c cs r in
+    split (c .0)
+    (λ t. simp (t, ne-eqb (c .1) 0 (omega arith)))
+    (λ f. simp f (first-append (c .1) cs ds (a .1)))
+
+pub first-most : (m : ℕ) (cs : List Check) → mostIs m cs ≡ true → firstOf cs ≤ m
+first-most m [] h = omega arith
+first-most m (c ∷ cs) h =
+    let a = and-eq-true-iff (leb (c .1) m) (mostIs m cs) .0 h in
+    split (c .0) (λ t. simp t (leb-true (c .1) m (a .0))) (λ f. simp f (first-most m cs (a .1)))
+
+pub holds-append : (cs ds : List Check) (n : ℕ) → holdsAt (cs ++ ds) n ≡ false → holdsAt cs n ≡ false
+unfolding holdsAt
+holds-append [] ds n e = refl
+holds-append (c ∷ cs) ds n e =
+    split (eqb (c .1) n) (λ t. simp t (simp t at e)) (λ f. simp f (holds-append cs ds n (simp f at e)))

@@ -3,6 +3,7 @@ use Prim.Native.Nat.{ℕ, _+_, _-_, _≤_, _<_}
 use mathlib.Core.Path.{_≡_, refl, sym, ap, _∙_}
 use mathlib.Core.Bool.{Bool, true, false}
 use mathlib.Core.List.{List, [], _∷_, _++_, append-nil}
+use native.Mathlib.Nat.{zero-add}
 use native.Mathlib.Omega.{arith}
 use lib.Dec.{ltb}
 use lib.ListN.{length, take, drop, getD, length-append, length-take, length-drop, List·getD-append, drop-of-length-le}
@@ -128,3 +129,13 @@ unfolding put
 take-put l at bs n p q =
     take-at (take at l ++ bs) (drop (at + length bs) l) n
     (length-append (take at l) bs ∙ ap (λ (x : ℕ). x + length bs) (length-take-le at l p) ∙ q)
+
+-- nothing put in
+pub put-nothing : (l : List ℕ) → put l 0 [] ≡ l
+unfolding put
+put-nothing l = refl
+
+-- put in front, the rest stays
+pub put-front : (l bs : List ℕ) → put l 0 bs ≡ bs ++ drop (length bs) l
+unfolding put
+put-front l bs = ap (λ (n : ℕ). bs ++ drop n l) (zero-add (length bs))

@@ -2,7 +2,7 @@
 use Prim.Native.Nat.{ℕ}
 use mathlib.Core.Bool.{Bool, true, false, cond, _&&_, _||_}
 use mathlib.Core.List.{List, [], _∷_}
-use lib.Dec.{ltb, eqb}
+use lib.Dec.{ltb, leb, eqb}
 
 abbrev pub Check : Type 0
 Check = Bool × ℕ
@@ -21,3 +21,8 @@ holdsAt (c ∷ cs) n = cond (eqb (c .1) n) (c .0) (holdsAt cs n)
 abbrev pub risesFrom : ℕ → List Check → Bool
 risesFrom k [] = true
 risesFrom k (c ∷ cs) = ltb k (c .1) && risesFrom (c .1) cs
+
+-- and no row's number is above m
+abbrev pub mostIs : ℕ → List Check → Bool
+mostIs m [] = true
+mostIs m (c ∷ cs) = leb (c .1) m && mostIs m cs

@@ -1,0 +1,6 @@
+pub mod Plans
+pub mod Numbers
+pub mod Effects
+pub mod Frames
+pub mod Mixed
+pub mod Shown

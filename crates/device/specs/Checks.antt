@@ -1,0 +1,134 @@
+-- The checks of a frame (01, "One frame, one reply"), each beside its row, in one ordered list.
+use Prim.Native.Nat.{ℕ, _+_, _-_, _*_, _%_, min}
+use mathlib.Core.Bool.{Bool, true, false, cond, not, _&&_, _||_}
+use mathlib.Core.List.{List, [], _∷_, _++_}
+use lib.ListN.{length}
+use lib.Dec.{eqb, leb, ltb}
+use Rattle.laws.specs.Checks.{Check}
+use Rattle.codec.specs.declared.Header.{Header}
+use Rattle.codec.specs.declared.Data.{Data}
+use Rattle.codec.specs.declared.Message.{Message}
+use Rattle.codec.specs.declared.Message.the-variants.{Short, Plain, Fragment}
+use Rattle.codec.specs.Names.{writeService, readService, request}
+use Rattle.codec.specs.Fields.{headerOf}
+use Rattle.codec.specs.Reading.{barred, messageOf}
+use Rattle.codec.specs.Writing.{bytesOf}
+use Rattle.table.specs.declared.Attribute.{Attribute}
+use Rattle.table.specs.declared.Found.{Found}
+use Rattle.table.specs.declared.Found.the-variants.{At, Nothing}
+use Rattle.table.specs.Table.{entrySize, readable, writable, wellFormed, find}
+use Rattle.join.specs.Work.{Piece, base, load, astray}
+
+-- what a call is given besides the record and what the areas hold: own address, table, and the lengths of store, work area and output
+pub record Setting : Type 0 where
+  pub own : ℕ
+  pub table : List ℕ
+  pub store : ℕ
+  pub work : ℕ
+  pub out : ℕ
+
+-- 1  "record not 10 bytes; table not a multiple of 8 or over 8,192; store over 32,768; work area not 8,320; output under 640; own address over 125"
+abbrev pub misfit : Setting → List ℕ → Bool
+misfit s r =
+    not (eqb (length r) 10) || not (eqb (length (s .table) % entrySize) 0) || ltb (1024 * entrySize) (length (s .table))
+    || ltb 32768 (s .store) || not (eqb (s .work) 8320) || ltb (s .out) 640 || ltb 125 (s .own)
+
+-- 2  "table not well formed"
+abbrev pub illFormed : Setting → Bool
+illFormed s = not (wellFormed (s .table) (s .store))
+
+-- 3  "RTR 1, DLC over 8, or address 126 or 127": the codec's `barred`
+
+-- 4  "Dir/Pri 1 or another address"
+abbrev pub notForUs : Setting → Header → Bool
+notForUs s h = eqb (h .dir) 1 || not (eqb (h .address) (s .own))
+
+-- 5  "DLC 0 or 1, or service 0 to 3"
+abbrev pub noService : Header → Bool
+noService h = ltb (h .dlc) 2 || ltb (h .service) 4
+
+-- 6  "not a Request"
+abbrev pub notRequest : Header → Bool
+notRequest h = not (eqb (h .response) request)
+
+-- 7  "Action or Event"
+abbrev pub actionOrEvent : Header → Bool
+actionOrEvent h = ltb 5 (h .service)
+
+-- 8  "Read with flag set or DLC not 2; Write with flag set and DLC under 4"
+abbrev pub badShape : Header → Bool
+badShape h =
+    (eqb (h .service) readService && (eqb (h .flag) 1 || not (eqb (h .dlc) 2)))
+    || (eqb (h .service) writeService && eqb (h .flag) 1 && ltb (h .dlc) 4)
+
+-- 9  "no such (object, attribute)"
+abbrev pub unknown : Found → Bool
+unknown Nothing = true
+unknown (At a) = false
+
+-- 10  "its access bit is not set": read's for a Read, write's for a Write
+abbrev pub noAccess : Header → Found → Bool
+noAccess h Nothing = false
+noAccess h (At a) = not (cond (eqb (h .service) readService) (readable a) (writable a))
+
+-- the length that a Write asks for: "data length (unfragmented) or total (fragmented)"
+abbrev pub lengthAsked : Message → ℕ
+lengthAsked (Short dir address service) = 0
+lengthAsked (Plain u b) = b .len
+lengthAsked (Fragment u number total b) = total
+
+-- 11  "Write: .. differs from the attribute's length"
+abbrev pub wrongLength : Header → Message → Found → Bool
+wrongLength h m Nothing = false
+wrongLength h m (At a) = eqb (h .service) writeService && not (eqb (lengthAsked m) (a .len))
+
+-- 12  "(12 to 14 for fragments only) number n with 4n not below total, or data not min(4, total - 4n) bytes"
+abbrev pub wrongPiece : Message → Bool
+wrongPiece (Short dir address service) = false
+wrongPiece (Plain u b) = false
+wrongPiece (Fragment u number total b) = not (ltb (4 * number) total) || not (eqb (b .len) (min 4 (total - 4 * number)))
+
+-- 13  "number above 63"
+abbrev pub highNumber : Message → Bool
+highNumber (Short dir address service) = false
+highNumber (Plain u b) = false
+highNumber (Fragment u number total b) = ltb 63 number
+
+-- a fragment, as the joiner sees it
+abbrev pub pieceOf : ℕ → ℕ → ℕ → Data → Piece
+pieceOf id number total b = record { id = id; total = total; number = number; bytes = bytesOf b }
+
+-- 14  "n not 0, and the record is idle or differs in ID, total or next number"
+abbrev pub outOfOrder : Header → Message → List ℕ → Bool
+outOfOrder h (Short dir address service) work = false
+outOfOrder h (Plain u b) work = false
+outOfOrder h (Fragment u number total b) work = astray 4 (load (base (h .object)) work) (pieceOf (h .id) number total b)
+
+-- checks 1 to 13: no state decides them
+abbrev pub stateless : Setting → List ℕ → Header → Message → Found → List Check
+stateless s r h m found =
+    (misfit s r, 1)
+    ∷ (illFormed s, 2)
+    ∷ (barred h, 3)
+    ∷ (notForUs s h, 4)
+    ∷ (noService h, 5)
+    ∷ (notRequest h, 6)
+    ∷ (actionOrEvent h, 7)
+    ∷ (badShape h, 8)
+    ∷ (unknown found, 9)
+    ∷ (noAccess h found, 10)
+    ∷ (wrongLength h m found, 11)
+    ∷ (wrongPiece m, 12)
+    ∷ (highNumber m, 13)
+    ∷ []
+
+-- what a lookup finds for a record
+abbrev pub soughtIn : List ℕ → Header → Found
+soughtIn t h = find t (h .object) (h .id)
+
+abbrev pub planChecks : Setting → List ℕ → List Check
+planChecks s r = stateless s r (headerOf r) (messageOf r) (soughtIn (s .table) (headerOf r))
+
+-- all fourteen
+abbrev pub checks : Setting → List ℕ → List ℕ → List Check
+checks s r work = planChecks s r ++ (outOfOrder (headerOf r) (messageOf r) work, 14) ∷ []

@@ -1,0 +1,17 @@
+// The object table: which attributes a device has, and where their bytes stand in its store (01, "Object table, store, work area").
+
+// A record of the table: eight bytes.
+pub struct Attribute {
+    pub object: u8,
+    pub id: u8,
+    pub access: u8,
+    pub len: u8,
+    pub offset: u16,
+    pub descriptor: u16,
+}
+
+// What a lookup of an object's attribute finds.
+pub enum Found {
+    At(Attribute),
+    Nothing,
+}
