@@ -1,3 +1,4 @@
+pub mod Examples
 pub mod Headers
 pub mod Datas
 pub mod Fits

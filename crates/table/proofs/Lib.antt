@@ -1,1 +1,2 @@
+pub mod Descriptors
 pub mod Tables

@@ -1,0 +1,27 @@
+-- Descriptor sizes against 001's own table and examples, computed.
+use Prim.Native.Nat.{ℕ, zero, suc, _+_}
+use mathlib.Core.Path.{_≡_, refl}
+use mathlib.Core.List.{List, [], _∷_, _++_, map}
+use lib.ListN.{replicate}
+use Rattle.table.specs.Descriptor.{sizeBy, descriptorSize}
+
+-- n numbers from k on
+abbrev from : ℕ → ℕ → List ℕ
+from zero k = []
+from (suc n) k = k ∷ from n (k + 1)
+
+-- 001, 5.2: a Boolean of undefined size, for N from 1 to 32: 1 byte up to 8 points, 2 up to 16, 4 up to 32
+pub decoding-table : map descriptorSize (from 32 0x0100) ≡ replicate 8 1 ++ replicate 8 2 ++ replicate 16 4
+unfolding descriptorSize sizeBy
+decoding-table = refl
+
+-- 001, 5.3.1 to 5.3.4
+pub worked-descriptors : map descriptorSize (0x0100 ∷ 0x010F ∷ 0x0143 ∷ 0x0040 ∷ []) ≡ 1 ∷ 2 ∷ 2 ∷ 2 ∷ []
+unfolding descriptorSize sizeBy
+worked-descriptors = refl
+
+-- Character takes N bytes and Extended character 2N, whatever the size bits; Real is long or refused; a reserved bit refuses
+pub other-descriptors : map descriptorSize (0x073F ∷ 0x075F ∷ 0x051F ∷ 0x0500 ∷ 0x0660 ∷ 0x0640 ∷ 0x1100 ∷ 0x0180 ∷ 0x0440 ∷ 0x0400 ∷ 0x0200 ∷ 0xC100 ∷ [])
+    ≡ 32 ∷ 32 ∷ 64 ∷ 2 ∷ 4 ∷ 0 ∷ 0 ∷ 0 ∷ 2 ∷ 0 ∷ 0 ∷ 1 ∷ []
+unfolding descriptorSize sizeBy
+other-descriptors = refl
