@@ -18,7 +18,9 @@ use Rattle.codec.specs.declared.Message.{Message}
 use Rattle.codec.specs.Fields.{headerOf}
 use Rattle.codec.specs.Reading.{readOf, readChecks, numberOf}
 use Rattle.codec.specs.Writing.{Octets, carried, imageOf, writeChecks, writeNumber, writtenOf, clearedOf}
-use Rattle.codec.proofs.Trips.{written-read, read-written, read-is-carried, image-octets}
+use Rattle.codec.proofs.Trips.{written, written-read, read-written, read-is-carried, image-octets}
+use Rattle.codec.proofs.bodies.data_from.Reads as data-from
+use Rattle.codec.proofs.bodies.places_of.Reads as places-of
 use Rattle.codec.proofs.heading.header_of.Reads as header-of
 use Rattle.codec.proofs.reading.read.Reads as read
 use Rattle.codec.proofs.writing.write.Reads as write
@@ -32,10 +34,6 @@ read-number r =
 writes : (m : Message) (r : List ℕ) → writeNumber m r ≡ 0 → (carried m ≡ true) × (writtenOf m r ≡ imageOf m)
 unfolding writeNumber writtenOf holdsAt
 writes m r e = (not-false (carried m) (none-holds (writeChecks m r) refl .0 e 3), simp (eq-eqb (writeNumber m r) 0 e))
-
-written : (m : Message) (r : List ℕ) → length r ≡ 10 → carried m ≡ true → (writeNumber m r ≡ 0) × (writtenOf m r ≡ imageOf m)
-unfolding writeNumber writtenOf
-written m r n e = (simp (eq-eqb (length r) 10 n, e), simp (eq-eqb (length r) 10 n, e))
 
 -- ---- refusals: a number is given exactly when its condition holds and no earlier one's does (01, "Frame record")
 
@@ -94,6 +92,12 @@ unused-is-unread r m b e = rw (← read-written r m b e) (written-read m (read-i
 pub header-determined : (κs : _) (args : _) (r r' : _) (s s' : _) → header-of.Post κs args r s → header-of.Post κs args r' s' → r ≡ r'
 header-determined κs args r r' s s' p q = p ∙ sym q
 
+pub data-determined : (κs : _) (args : _) (r r' : _) (s s' : _) → data-from.Post κs args r s → data-from.Post κs args r' s' → r ≡ r'
+data-determined κs args r r' s s' p q = p ∙ sym q
+
+pub places-determined : (κs : _) (args : _) (r r' : _) (s s' : _) → places-of.Post κs args r s → places-of.Post κs args r' s' → r ≡ r'
+places-determined κs args r r' s s' p q = p ∙ sym q
+
 pub read-determined : (κs : _) (args : _) (r r' : _) (s s' : _) → read.Post κs args r s → read.Post κs args r' s' → r ≡ r'
 read-determined κs args r r' s s' p q = p ∙ sym q
 
@@ -105,6 +109,12 @@ write-determined κs args r r' s s' p q = (p .0 ∙ sym (q .0), p .1 ∙ sym (q 
 
 pub header-asks-nothing : (κs : _) (args : _) → header-of.Asked κs args
 header-asks-nothing κs args = tt
+
+pub data-asks-nothing : (κs : _) (args : _) → data-from.Asked κs args
+data-asks-nothing κs args = tt
+
+pub places-asks-nothing : (κs : _) (args : _) → places-of.Asked κs args
+places-asks-nothing κs args = tt
 
 pub read-asks-nothing : (κs : _) (args : _) → read.Asked κs args
 read-asks-nothing κs args = tt

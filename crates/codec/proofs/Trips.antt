@@ -21,10 +21,11 @@ use Rattle.codec.specs.declared.Message.{Message}
 use Rattle.codec.specs.declared.Message.the-variants.{Short, Plain, Fragment}
 use Rattle.codec.specs.Fields.{headerOf}
 use Rattle.codec.specs.Reading.{headerChecks, readChecks, subjectOf, shortOf, dataOf, longOf, messageOf, readOf}
-use Rattle.codec.specs.Writing.{Octets, placesOf, bytesOf, tidy, subjectFits, shortFits, canHeader, longFrame, frameOf, imageOf, carried, clearedOf}
+use Rattle.codec.specs.Writing.{Octets, placesOf, bytesOf, tidy, subjectFits, shortFits, canHeader, longFrame, frameOf, imageOf, carried, clearedOf, writeNumber, writtenOf}
 use Rattle.codec.proofs.Headers.{Ranged, ranged, passed, Long, long-of}
 use Rattle.codec.proofs.Datas.{tidy-most, tidy-more, tidy-data, bytes-length, data-bytes}
 use Rattle.codec.proofs.Fits.{SubjectFits, subject-fits, ShortFits, short-fits}
+use Rattle.codec.proofs.Images.{long-length}
 use Rattle.codec.proofs.Long.{Shape, got, message-long, long-read, long-back, long-carried}
 
 -- ---- what was written is read back
@@ -194,3 +195,22 @@ plain-carried u l f h = simp (subject-fits u .1 f, tidy-data l h 6 h)
 pub fragment-carried : (u : Subject) (n k : ℕ) (l : List ℕ) → SubjectFits u → length l ≤ 4 → carried (Fragment u n k (dataOf l)) ≡ true
 unfolding carried
 fragment-carried u n k l f h = simp (subject-fits u .1 f, tidy-data l (omega arith) 4 h)
+
+-- what is read is the record's message
+pub read-message : (r : List ℕ) (m : Message) → readOf r ≡ Got m → messageOf r ≡ m
+read-message r m e = read-by r m e .is
+
+-- a record that carries a message is ten bytes, and is what writing leaves of a record
+pub image-ten : (m : Message) → carried m ≡ true → length (imageOf m) ≡ 10
+unfolding imageOf frameOf carried
+image-ten (Short d a s) e = refl
+image-ten (Plain u b) e =
+    let f = and-eq-true-iff (subjectFits u) (tidy 6 b) .0 e in
+    long-length u 0 (bytesOf b) (plain-shape b (f .1) .room)
+image-ten (Fragment u n k b) e =
+    let f = and-eq-true-iff (subjectFits u) (tidy 4 b) .0 e in
+    long-length u 1 (n ∷ k ∷ bytesOf b) (fragment-shape n k b (f .1) .room)
+
+pub written : (m : Message) (r : List ℕ) → length r ≡ 10 → carried m ≡ true → (writeNumber m r ≡ 0) × (writtenOf m r ≡ imageOf m)
+unfolding writeNumber writtenOf
+written m r n e = (simp (eq-eqb (length r) 10 n, e), simp (eq-eqb (length r) 10 n, e))

@@ -1,9 +1,12 @@
 // The codec: frame records of ten bytes to messages and back (01, "Frame record"; 000, 3.2).
+mod bodies;
 mod heading;
 mod octets;
 mod reading;
 mod writing;
 
+pub use bodies::data_from;
+pub use bodies::places_of;
 pub use heading::header_of;
 pub use reading::read;
 pub use writing::write;

@@ -3,14 +3,13 @@ ghost use mathlib.Core.Path.{_≡_};
 ghost use Prim.Native.Nat.{_≤_};
 ghost use lib.ListN.{length};
 ghost use Rattle.laws.specs.Checks.{firstOf};
-ghost use Rattle.codec.specs.Reading.{headerChecks, subjectOf, dataOf, shortOf, longOf, readOf};
+ghost use Rattle.codec.specs.Reading.{headerChecks, subjectOf, longOf, readOf};
 use crate::Answer;
-use crate::Data;
 use crate::Header;
 use crate::Message;
 use crate::Subject;
+use crate::bodies::data_of;
 use crate::heading::header_of;
-use crate::octets::byte_at;
 use crate::octets::wide;
 
 // Why a record of ten bytes with this header is refused; 0 where it is read. The order is 01's.
@@ -54,21 +53,6 @@ fn subject_of(h: Header) -> Subject
         response: h.response,
         object: h.object,
         id: h.id,
-    }
-}
-
-fn data_of(bytes: &[u8]) -> Data
-    requires { ⌜ length (now bytes) ≤ 6 ⌝ }
-    ensures { λ r. ⌜ r ≡ dataOf (now (bytes .entry)) ⌝ }
-{
-    Data {
-        len: bytes.len() as u8,
-        b0: byte_at(bytes, 0),
-        b1: byte_at(bytes, 1),
-        b2: byte_at(bytes, 2),
-        b3: byte_at(bytes, 3),
-        b4: byte_at(bytes, 4),
-        b5: byte_at(bytes, 5),
     }
 }
 

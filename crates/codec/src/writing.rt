@@ -10,6 +10,7 @@ ghost use Rattle.codec.specs.Writing.{tidy as Writing·tidy, subjectFits
 use crate::Data;
 use crate::Message;
 use crate::Subject;
+use crate::bodies::places_of;
 use crate::octets::wide;
 
 // Whether each byte from a place on is 0.
@@ -32,7 +33,7 @@ fn tidy(most: u8, d: Data) -> bool
     if most < d.len {
         return false;
     }
-    let places = [d.b0, d.b1, d.b2, d.b3, d.b4, d.b5];
+    let places = places_of(d);
     zeros_from(&places, wide(d.len))
 }
 

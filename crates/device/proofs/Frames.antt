@@ -47,7 +47,7 @@ pub success-ten : (own : ℕ) (h : Header) → length (successFrame own h) ≡ 1
 unfolding successFrame
 success-ten own h = plain-length (answering own h successful) [] (omega arith)
 
-fragment-ten : (u : Subject) (bs : List ℕ) (n : ℕ) → length (fragmentFrame u bs n) ≡ 10
+pub fragment-ten : (u : Subject) (bs : List ℕ) (n : ℕ) → length (fragmentFrame u bs n) ≡ 10
 unfolding fragmentFrame
 fragment-ten u bs n = fragment-length u n (length bs) (take 4 (drop (4 * n) bs)) (four-most n bs)
 
@@ -55,7 +55,7 @@ tens-append : (fs gs : List (List ℕ)) → Tens fs → Tens gs → Tens (fs ++ 
 tens-append [] gs a b = b
 tens-append (f ∷ fs) gs a b = (a .0, tens-append fs gs (a .1) b)
 
-fragments-ten : (u : Subject) (bs : List ℕ) (n : ℕ) → Tens (fragmentFrames u bs n)
+pub fragments-ten : (u : Subject) (bs : List ℕ) (n : ℕ) → Tens (fragmentFrames u bs n)
 fragments-ten u bs zero = tt
 fragments-ten u bs (suc n) = tens-append (fragmentFrames u bs n) (fragmentFrame u bs n ∷ []) (fragments-ten u bs n) (fragment-ten u bs n, tt)
 
@@ -90,7 +90,7 @@ flat-length (f ∷ fs) t = length-append f (flat fs) ∙ omega (arith, t .0, fla
 
 -- ---- at most 64
 
-fragments-count : (u : Subject) (bs : List ℕ) (n : ℕ) → length (fragmentFrames u bs n) ≡ n
+pub fragments-count : (u : Subject) (bs : List ℕ) (n : ℕ) → length (fragmentFrames u bs n) ≡ n
 fragments-count u bs zero = refl
 fragments-count u bs (suc n) = length-append (fragmentFrames u bs n) (fragmentFrame u bs n ∷ []) ∙ omega (arith, fragments-count u bs n)
 
@@ -99,7 +99,7 @@ unfolding readFrames
 read-count own h bs =
     split (leb (length bs) 6) (λ t. simp t) (λ t. simp t (fragments-count (answering own h successful) bs ((length bs + 3) / 4)))
 
-part-most : (a : Attribute) (store : List ℕ) → length (partOf a store) ≤ a .len
+pub part-most : (a : Attribute) (store : List ℕ) → length (partOf a store) ≤ a .len
 unfolding partOf
 part-most a store = split (leb (endOf a) (length store)) (λ t. simp t (rw length-take (omega arith))) (λ t. simp t (omega arith))
 

@@ -42,9 +42,9 @@ unfolding replyTo joinedAt
 served-number s r x u Nothing e = clash (ap unknown e) (u .known)
 served-number s r x u (At a) e =
     let h = headerOf r in
-    let z : h .dlc ≡ 0 → ⊥ = λ q. omega (arith, u .long) in
+    let z : h .dlc ≡ 0 → ⊥ = λ q. omega (arith, u .frame .long) in
     split (eqb (h .service) readService)
-    (λ t. rw (message-plain r z (u .plain-read (eqb-true (h .service) readService t))) (simp t))
+    (λ t. rw (message-plain r z (u .frame .plain-read (eqb-true (h .service) readService t))) (simp t))
     (λ t. split (eqb (h .flag) 1)
     (λ f.
     let pl = placed (s .table) (s .store) (h .object) (h .id) a (u .well) e in
@@ -88,8 +88,8 @@ no-thirteen s r u Nothing e = clash (ap unknown e) (u .known)
 no-thirteen s r u (At a) e =
     let h = headerOf r in
     split (eqb (h .service) readService)
-    (λ t. rw (message-plain r (λ q. omega (arith, u .long)) (u .plain-read (eqb-true (h .service) readService t))))
+    (λ t. rw (message-plain r (λ q. omega (arith, u .frame .long)) (u .frame .plain-read (eqb-true (h .service) readService t))))
     (λ t.
     let pl = placed (s .table) (s .store) (h .object) (h .id) a (u .well) e in
-    high-fits h a (u .services (eqb-false (h .service) readService t)) (pl .fits .short) (messageOf r)
+    high-fits h a (u .frame .services (eqb-false (h .service) readService t)) (pl .fits .short) (messageOf r)
     (subst (λ (f : Found). wrongLength h (messageOf r) f ≡ false) e (u .length-fits)) (u .piece-fits))

@@ -18,7 +18,7 @@ use Rattle.codec.specs.declared.Message.{Message}
 use Rattle.codec.specs.declared.Message.the-variants.{Short, Plain, Fragment}
 use Rattle.codec.specs.Names.{writeService, readService}
 use Rattle.codec.specs.Fields.{headerOf}
-use Rattle.codec.specs.Reading.{headerChecks, messageOf, readOf}
+use Rattle.codec.specs.Reading.{headerChecks, barred, messageOf, readOf}
 use Rattle.codec.specs.Writing.{bytesOf, tidy, subjectFits, carried}
 use Rattle.codec.proofs.Headers.{long-passes}
 use Rattle.codec.proofs.Datas.{bytes-length, tidy-more}
@@ -32,7 +32,7 @@ use Rattle.table.proofs.Tables.{Placed, placed}
 use Rattle.join.specs.History.{Shaped}
 use Rattle.device.specs.declared.Plan.{Plan}
 use Rattle.device.specs.declared.Plan.the-variants.{Quiet, Error, Read, Write, Join}
-use Rattle.device.specs.Checks.{Setting, misfit, badShape, unknown, wrongLength, wrongPiece, pieceOf, soughtIn, planChecks}
+use Rattle.device.specs.Checks.{Setting, misfit, noService, actionOrEvent, badShape, unknown, wrongLength, wrongPiece, pieceOf, soughtIn, planChecks}
 use Rattle.device.specs.Step.{served, servedWrite, refused, planOf}
 
 -- what check 1 leaves
@@ -63,18 +63,6 @@ fit s r e =
       own = ltb-false 125 (s .own) (own .1);
     }
 
--- what is known of a setting and a record that pass checks 1 to 12
-pub record Unrefused (s : Setting) (r : List ℕ) : Type 0 where
-  pub sizes : Fit s r
-  pub well : wellFormed (s .table) (s .store) ≡ true
-  pub read : readOf r ≡ Got (messageOf r)
-  pub long : 2 ≤ headerOf r .dlc
-  pub plain-read : headerOf r .service ≡ readService → headerOf r .flag ≡ 1 → ⊥
-  pub known : unknown (soughtIn (s .table) (headerOf r)) ≡ false
-  pub length-fits : wrongLength (headerOf r) (messageOf r) (soughtIn (s .table) (headerOf r)) ≡ false
-  pub piece-fits : wrongPiece (messageOf r) ≡ false
-  pub services : (headerOf r .service ≡ readService → ⊥) → headerOf r .service ≡ writeService
-
 -- check 8 lets no Read with the flag set pass
 unflagged : (h : Header) → badShape h ≡ false → h .service ≡ readService → h .flag ≡ 1 → ⊥
 unflagged h b t f =
@@ -93,26 +81,52 @@ flagged h b which f =
     let w = eq-eqb (h .service) writeService (which (eqb-false (h .service) readService t)) in
     ltb-false (h .dlc) 4 (simp (w, set) at (parts .1)))
 
+-- what checks 3 to 8 leave of a header: the codec reads its record
+pub record Passed (h : Header) : Type 0 where
+  pub long : 2 ≤ h .dlc
+  pub named : 4 ≤ h .service
+  pub services : (h .service ≡ readService → ⊥) → h .service ≡ writeService
+  pub plain-read : h .service ≡ readService → h .flag ≡ 1 → ⊥
+  pub unrefused : firstOf (headerChecks h) ≡ 0
+
+pub passed : (h : Header) → barred h ≡ false → noService h ≡ false → actionOrEvent h ≡ false → badShape h ≡ false → Passed h
+passed h b n a p =
+    let five = neither (ltb (h .dlc) 2) (ltb (h .service) 4) .0 n in
+    let dlc = ltb-false (h .dlc) 2 (five .0) in
+    let service = ltb-false (h .service) 4 (five .1) in
+    let most = ltb-false 5 (h .service) a in
+    let which : (h .service ≡ readService → ⊥) → h .service ≡ writeService = λ n. omega arith in
+    record {
+      long = dlc;
+      named = service;
+      services = which;
+      plain-read = unflagged h p;
+      unrefused = long-passes h b dlc service (flagged h p which);
+    }
+
+-- what is known of a setting and a record that pass checks 1 to 12
+pub record Unrefused (s : Setting) (r : List ℕ) : Type 0 where
+  pub sizes : Fit s r
+  pub well : wellFormed (s .table) (s .store) ≡ true
+  pub read : readOf r ≡ Got (messageOf r)
+  pub frame : Passed (headerOf r)
+  pub known : unknown (soughtIn (s .table) (headerOf r)) ≡ false
+  pub length-fits : wrongLength (headerOf r) (messageOf r) (soughtIn (s .table) (headerOf r)) ≡ false
+  pub piece-fits : wrongPiece (messageOf r) ≡ false
+
 pub unrefused-by : (s : Setting) (r : List ℕ) → ((n : ℕ) → n < 13 → holdsAt (planChecks s r) n ≡ false) → Unrefused s r
 unfolding holdsAt
 unrefused-by s r free =
-    let h = headerOf r in
     let sizes = fit s r (free 1 (omega arith)) in
-    let five = neither (ltb (h .dlc) 2) (ltb (h .service) 4) .0 (free 5 (omega arith)) in
-    let dlc = ltb-false (h .dlc) 2 (five .0) in
-    let service = ltb-false (h .service) 4 (five .1) in
-    let most = ltb-false 5 (h .service) (free 7 (omega arith)) in
-    let which : (h .service ≡ readService → ⊥) → h .service ≡ writeService = λ n. omega arith in
+    let frame = passed (headerOf r) (free 3 (omega arith)) (free 5 (omega arith)) (free 7 (omega arith)) (free 8 (omega arith)) in
     record {
       sizes = sizes;
+      frame = frame;
       well = not-false _ (free 2 (omega arith));
-      read = got r (sizes .ten) (long-passes h (free 3 (omega arith)) dlc service (flagged h (free 8 (omega arith)) which));
-      long = dlc;
-      plain-read = unflagged h (free 8 (omega arith));
+      read = got r (sizes .ten) (frame .unrefused);
       known = free 9 (omega arith);
       length-fits = free 11 (omega arith);
       piece-fits = free 12 (omega arith);
-      services = which;
     }
 
 pub unrefused : (s : Setting) (r : List ℕ) → firstOf (planChecks s r) ≡ 0 → Unrefused s r
@@ -127,12 +141,14 @@ pub record ForRead (s : Setting) (h : Header) (a : Attribute) : Type 0 where
 pub record ForWrite (s : Setting) (h : Header) (a : Attribute) (b : Data) : Type 0 where
   pub found : soughtIn (s .table) h ≡ At a
   pub place : Placed 0 (attributes (s .table)) (s .store) (h .object) (h .id) a
+  pub tidied : tidy 6 b ≡ true
   pub whole : length (bytesOf b) ≡ a .len
 
 pub record ForJoin (s : Setting) (h : Header) (a : Attribute) (number total : ℕ) (b : Data) : Type 0 where
   pub found : soughtIn (s .table) h ≡ At a
   pub place : Placed 0 (attributes (s .table)) (s .store) (h .object) (h .id) a
   pub work : s .work ≡ 8320
+  pub tidied : tidy 4 b ≡ true
   pub total-len : total ≡ a .len
   pub shaped : Shaped 4 (pieceOf (a .id) number total b)
 
@@ -153,20 +169,22 @@ sound-write s r a ef pl w work (Short d q v) c l p = tt
 sound-write s r a ef pl w work (Plain u b) c l p =
     let t = and-eq-true-iff (subjectFits u) (tidy 6 b) .0 c .1 in
     let n : not (eqb (b .len) (a .len)) ≡ false = simp (eq-eqb (headerOf r .service) writeService w) at l in
-    record { found = ef; place = pl; whole = bytes-length b t ∙ eqb-true (b .len) (a .len) (not-false _ n) }
+    record { found = ef; place = pl; tidied = t; whole = bytes-length b t ∙ eqb-true (b .len) (a .len) (not-false _ n) }
 sound-write s r a ef pl w work (Fragment u number total b) c l p =
-    let t = tidy-more 4 6 b (omega arith) (and-eq-true-iff (subjectFits u) (tidy 4 b) .0 c .1) in
+    let q = and-eq-true-iff (subjectFits u) (tidy 4 b) .0 c .1 in
+    let t = tidy-more 4 6 b (omega arith) q in
     let n : not (eqb total (a .len)) ≡ false = simp (eq-eqb (headerOf r .service) writeService w) at l in
     let len = eqb-true total (a .len) (not-false _ n) in
-    let q = neither (not (ltb (4 * number) total)) (not (eqb (b .len) (min 4 (total - 4 * number)))) .0 p in
+    let p' = neither (not (ltb (4 * number) total)) (not (eqb (b .len) (min 4 (total - 4 * number)))) .0 p in
     record {
       found = ef;
       place = pl;
       work = work;
+      tidied = q;
       total-len = len;
       shaped = record {
-        inside = ltb-true (4 * number) total (not-false _ (q .0));
-        fit = bytes-length b t ∙ eqb-true (b .len) (min 4 (total - 4 * number)) (not-false _ (q .1));
+        inside = ltb-true (4 * number) total (not-false _ (p' .0));
+        fit = bytes-length b t ∙ eqb-true (b .len) (min 4 (total - 4 * number)) (not-false _ (p' .1));
         room = omega (arith, pl .fits .short);
       };
     }
@@ -178,7 +196,7 @@ sound-served s r u (At a) ef =
     let pl = placed (s .table) (s .store) (headerOf r .object) (headerOf r .id) a (u .well) ef in
     split (eqb (headerOf r .service) readService)
     (λ t. simp t (record { found = ef; place = pl }))
-    (λ t. simp t (sound-write s r a ef pl (u .services (eqb-false (headerOf r .service) readService t)) (u .sizes .work) (messageOf r)
+    (λ t. simp t (sound-write s r a ef pl (u .frame .services (eqb-false (headerOf r .service) readService t)) (u .sizes .work) (messageOf r)
     (read-is-carried r (messageOf r) (u .read))
     (subst (λ (f : Found). wrongLength (headerOf r) (messageOf r) f ≡ false) ef (u .length-fits)) (u .piece-fits)))
 

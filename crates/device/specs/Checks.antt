@@ -27,6 +27,9 @@ pub record Setting : Type 0 where
   pub work : ℕ
   pub out : ℕ
 
+abbrev pub setting : ℕ → List ℕ → ℕ → ℕ → ℕ → Setting
+setting own table store work out = record { own = own; table = table; store = store; work = work; out = out }
+
 -- 1  "record not 10 bytes; table not a multiple of 8 or over 8,192; store over 32,768; work area not 8,320; output under 640; own address over 125"
 abbrev pub misfit : Setting → List ℕ → Bool
 misfit s r =
@@ -40,8 +43,8 @@ illFormed s = not (wellFormed (s .table) (s .store))
 -- 3  "RTR 1, DLC over 8, or address 126 or 127": the codec's `barred`
 
 -- 4  "Dir/Pri 1 or another address"
-abbrev pub notForUs : Setting → Header → Bool
-notForUs s h = eqb (h .dir) 1 || not (eqb (h .address) (s .own))
+abbrev pub notForUs : ℕ → Header → Bool
+notForUs own h = eqb (h .dir) 1 || not (eqb (h .address) own)
 
 -- 5  "DLC 0 or 1, or service 0 to 3"
 abbrev pub noService : Header → Bool
@@ -110,7 +113,7 @@ stateless s r h m found =
     (misfit s r, 1)
     ∷ (illFormed s, 2)
     ∷ (barred h, 3)
-    ∷ (notForUs s h, 4)
+    ∷ (notForUs (s .own) h, 4)
     ∷ (noService h, 5)
     ∷ (notRequest h, 6)
     ∷ (actionOrEvent h, 7)

@@ -3,3 +3,4 @@ pub mod Step
 pub mod Belongs
 pub mod History
 pub mod Frames
+pub mod Code

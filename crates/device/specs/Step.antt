@@ -23,7 +23,7 @@ use Rattle.table.specs.Table.{partOf}
 use Rattle.join.specs.Work.{Joined, kept, done, lost, base, load, joined, areaAfter}
 use Rattle.device.specs.declared.Plan.{Plan}
 use Rattle.device.specs.declared.Plan.the-variants.{Quiet, Error, Read, Write, Join}
-use Rattle.device.specs.Checks.{Setting, pieceOf, soughtIn, planChecks}
+use Rattle.device.specs.Checks.{Setting, setting, pieceOf, soughtIn, planChecks}
 
 -- ---- the plan: what a frame asks for, decided without state
 
@@ -163,7 +163,7 @@ pub record Outcome : Type 0 where
   pub output : List ℕ
 
 abbrev pub settingOf : ℕ → List ℕ → List ℕ → List ℕ → List ℕ → Setting
-settingOf own table store work out = record { own = own; table = table; store = length store; work = length work; out = length out }
+settingOf own table store work out = setting own table (length store) (length work) (length out)
 
 abbrev pub outcomeOf : Reply → Areas → List ℕ → Outcome
 outcomeOf y x out = record { number = y .number; count = length (y .frames); store = x .store; work = x .work; output = sent (y .frames) out }

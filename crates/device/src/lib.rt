@@ -1,4 +1,12 @@
 // The device: one frame, one reply (01, "One frame, one reply").
+mod answering;
+mod applying;
+mod frame_checks;
+mod judging;
+mod sizes;
+mod stepping;
+
+pub use stepping::step;
 
 // What a frame asks for, decided by checks 1 to 13 and no state.
 pub enum Plan {
@@ -21,4 +29,10 @@ pub enum Plan {
         total: u8,
         body: codec::Data,
     },
+}
+
+// The number of the reply, and how many frames stand at the front of the output.
+pub struct Reply {
+    pub number: u8,
+    pub count: u8,
 }

@@ -1,3 +1,5 @@
 pub mod Places
 pub mod Records
 pub mod Joins
+pub mod Parts
+pub mod Determined

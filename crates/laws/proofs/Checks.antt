@@ -132,3 +132,10 @@ unfolding holdsAt
 holds-append [] ds n e = refl
 holds-append (c ∷ cs) ds n e =
     split (eqb (c .1) n) (λ t. simp t (simp t at e)) (λ f. simp f (holds-append cs ds n (simp f at e)))
+
+-- the number of a table, from that of its first rows, or of the others
+pub first-early : (cs ds : List Check) → risesFrom 0 cs ≡ true → (n : ℕ) → n ≡ firstOf cs → (n ≡ 0 → ⊥) → n ≡ firstOf (cs ++ ds)
+first-early cs ds r n e z = e ∙ sym (first-append 0 cs ds r ∙ simp (ne-eqb (firstOf cs) 0 (λ q. z (e ∙ q))))
+
+pub first-late : (cs ds : List Check) → risesFrom 0 cs ≡ true → firstOf cs ≡ 0 → (m : ℕ) → m ≡ firstOf ds → m ≡ firstOf (cs ++ ds)
+first-late cs ds r z m e = e ∙ sym (first-append 0 cs ds r ∙ simp z)

@@ -2,12 +2,12 @@
 use Prim.Native.Nat.{ℕ, _+_, _-_, _≤_, _<_}
 use mathlib.Core.Path.{_≡_, refl, sym, ap, _∙_}
 use mathlib.Core.Bool.{Bool, true, false}
-use mathlib.Core.List.{List, [], _∷_, _++_, append-nil}
+use mathlib.Core.List.{List, [], _∷_, _++_, append-assoc}
 use native.Mathlib.Nat.{zero-add}
 use native.Mathlib.Omega.{arith}
 use lib.Dec.{ltb}
 use lib.ListN.{length, take, drop, getD, length-append, length-take, length-drop, List·getD-append, drop-of-length-le}
-use lib.Seq.{getD-append-add, getD-take, getD-drop, ext-getD, length-take-le, take-at}
+use lib.Seq.{getD-append-add, getD-take, getD-drop, ext-getD, length-take-le, take-at, drop-drop}
 use borrow.Author.Tests.{ltb-true, ltb-false}
 use Rattle.laws.specs.Put.{put, Agree}
 
@@ -139,3 +139,8 @@ put-nothing l = refl
 pub put-front : (l bs : List ℕ) → put l 0 bs ≡ bs ++ drop (length bs) l
 unfolding put
 put-front l bs = ap (λ (n : ℕ). bs ++ drop n l) (zero-add (length bs))
+
+-- a part that was lent and comes back with other elements, as many as it had
+pub part-back : (l bs : List ℕ) (at k : ℕ) → length bs ≡ k → take at l ++ (bs ++ drop k (drop at l)) ≡ put l at bs
+unfolding put
+part-back l bs at k e = rw (drop-drop k at l, e) (sym (append-assoc (take at l) bs (drop (at + k) l)))

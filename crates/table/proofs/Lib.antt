@@ -1,2 +1,4 @@
 pub mod Descriptors
 pub mod Tables
+pub mod Records
+pub mod Determined

@@ -1,4 +1,15 @@
 // The object table: which attributes a device has, and where their bytes stand in its store (01, "Object table, store, work area").
+mod descriptor;
+mod entries;
+mod finding;
+
+pub use descriptor::descriptor_size;
+pub use entries::may_read;
+pub use entries::may_write;
+pub use entries::well_formed;
+pub use finding::find;
+pub use finding::lookup;
+pub use finding::part;
 
 // A record of the table: eight bytes.
 pub struct Attribute {

@@ -8,6 +8,9 @@ returns : tie.Need-returns
 unfolding tidy
 returns c = search tests
 
+places-of-requires : tie.Need-places-of-requires
+places-of-requires c κs = search needs
+
 slice-aggregate-zeros-from : tie.Need-slice-aggregate-zeros-from
 slice-aggregate-zeros-from c = search needs
 
@@ -19,9 +22,15 @@ zeros-from-requires c κs = search needs
 
 returns-2 : tie.Need-returns-2
 unfolding tidy
-returns-2 c = search (tests, c .zeros-from .ensures, c .before .wide .ensures)
+returns-2 c = search (tests, c .zeros-from .ensures, c .before .wide .ensures, c .before .before .before .places-of .ensures)
 
 pub tidy-spec : {M : Type 1} → statement M
 tidy-spec =
     tie.close
-    (tie.spec returns slice-aggregate-zeros-from wide-requires zeros-from-requires returns-2)
+    (tie.spec
+    returns
+    places-of-requires
+    slice-aggregate-zeros-from
+    wide-requires
+    zeros-from-requires
+    returns-2)

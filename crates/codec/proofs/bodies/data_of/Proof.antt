@@ -1,7 +1,7 @@
 use Rattle.codec.specs.Reading.{dataOf}
 use borrow.Author.Needs.{needs}
-use Rattle.codec.proofs.reading.data_of.Statement.{statement}
-use Rattle.codec.proofs.reading.data_of.Tie as tie
+use Rattle.codec.proofs.bodies.data_of.Statement.{statement}
+use Rattle.codec.proofs.bodies.data_of.Tie as tie
 
 cast-t3 : tie.Need-cast-t3
 cast-t3 c = search needs

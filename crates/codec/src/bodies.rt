@@ -1,0 +1,40 @@
+// Data and the bytes that it holds.
+ghost use mathlib.Core.Path.{_≡_};
+ghost use Prim.Native.Nat.{_≤_};
+ghost use lib.ListN.{length, take};
+ghost use Rattle.codec.specs.Reading.{dataOf};
+ghost use Rattle.codec.specs.Writing.{placesOf};
+use crate::Data;
+use crate::octets::byte_at;
+
+pub(crate) fn data_of(bytes: &[u8]) -> Data
+    requires { ⌜ length (now bytes) ≤ 6 ⌝ }
+    ensures { λ r. ⌜ r ≡ dataOf (now (bytes .entry)) ⌝ }
+{
+    Data {
+        len: bytes.len() as u8,
+        b0: byte_at(bytes, 0),
+        b1: byte_at(bytes, 1),
+        b2: byte_at(bytes, 2),
+        b3: byte_at(bytes, 3),
+        b4: byte_at(bytes, 4),
+        b5: byte_at(bytes, 5),
+    }
+}
+
+// The data of a message: the bytes of a slice, of which at most six have room.
+pub fn data_from(bytes: &[u8]) -> Data
+    ensures { λ r. ⌜ r ≡ dataOf (take 6 (now (bytes .entry))) ⌝ }
+{
+    if 6 < bytes.len() {
+        return data_of(&bytes[0..6]);
+    }
+    data_of(bytes)
+}
+
+// The six places of data: the first len of them are its bytes.
+pub fn places_of(d: Data) -> [u8; 6]
+    ensures { λ r. ⌜ r ≡ placesOf d ⌝ }
+{
+    [d.b0, d.b1, d.b2, d.b3, d.b4, d.b5]
+}

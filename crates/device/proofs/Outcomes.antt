@@ -1,0 +1,172 @@
+-- What carrying out a plan leaves, from what each part of it leaves; and so a call.
+use Prim.Native.Nat.{ℕ, _+_, _-_, _*_, _%_, _≤_, _<_}
+use mathlib.Core.Path.{_≡_, refl, ap, sym, subst, _∙_}
+use mathlib.Core.Bool.{Bool, true, false, cond}
+use mathlib.Core.List.{List, [], _∷_}
+use native.Mathlib.Omega.{arith}
+use lib.ListN.{length, take, drop, length-append, length-take, length-drop}
+use lib.Dec.{ltb}
+use borrow.Author.Tests.{leb-true, lt-ltb}
+use Rattle.laws.specs.Put.{put}
+use Rattle.laws.proofs.Put.{put-nothing}
+use Rattle.codec.specs.declared.Data.{Data}
+use Rattle.codec.specs.declared.Message.the-variants.{Plain}
+use Rattle.codec.specs.Names.{successful, erroneous}
+use Rattle.codec.specs.Fields.{headerOf}
+use Rattle.codec.specs.Reading.{dataOf}
+use Rattle.codec.specs.Writing.{placesOf, bytesOf, imageOf}
+use Rattle.table.specs.declared.Attribute.{Attribute}
+use Rattle.join.specs.Work.{Joined, kept, done, lost, base, load, astray, last, joined, areaAfter}
+use Rattle.join.proofs.Parts.{astray-any, held-part}
+use Rattle.codec.specs.declared.Header.{Header}
+use Rattle.device.specs.declared.Plan.{Plan}
+use Rattle.device.specs.declared.Plan.the-variants.{Quiet, Error, Read, Write, Join}
+use Rattle.table.specs.Table.{partOf}
+use Rattle.device.specs.Checks.{pieceOf}
+use Rattle.device.specs.Step.{storeAfter, joinedAt, perform, answering, errorFrame, successFrame, readFrames, joinReply, replyTo, planOf, Areas, Outcome, outcomeOf, sent, settingOf, stepWith, stepOf}
+use Rattle.device.specs.Code.{KeepReady, Ready, joinedBytes, areas, outcome}
+use Rattle.device.proofs.Ready.{ready}
+
+-- the first places of data, as many as it has bytes
+pub places-cut : (d : Data) (n : ℕ) → n ≡ d .len → take (n - 0) (placesOf d) ≡ bytesOf d
+unfolding bytesOf
+places-cut d n e = let z : n - 0 ≡ d .len = omega arith in rw z
+
+module _ (a : Attribute) (number total : ℕ) (b : Data) where
+  -- what a fragment holds ends inside its record, which is inside the area
+  pub piece-room : (work : ℕ) → KeepReady a number total b work
+      → (number < 255) × (base (a .object) + 4 + 4 * number + length (bytesOf b) ≤ work)
+  piece-room work r =
+      let s = r .shaped in
+      (omega (arith, s .inside, s .room), omega (arith, s .inside, s .room, s .fit, r .object, r .area))
+
+  -- what is held before the last fragment is inside the area, and with it as long as the attribute
+  pub joined-room : (work : List ℕ) → KeepReady a number total b (length work) → last 4 (pieceOf (a .id) number total b) ≡ true
+      → (base (a .object) + 4 + 4 * number ≤ length work) × (a .len ≡ 4 * number + length (bytesOf b)) × (length (joinedBytes a number b work) ≡ a .len)
+  joined-room work r t =
+      let s = r .shaped in
+      let l = leb-true total (4 * number + 4) t in
+      let room : base (a .object) + 4 + 4 * number ≤ length work = omega (arith, s .inside, s .room, r .object, r .area) in
+      let whole : a .len ≡ 4 * number + length (bytesOf b) = omega (arith, r .whole, s .inside, s .fit, l) in (
+        room,
+        whole,
+        length-append (take (4 * number) (drop (base (a .object) + 4) work)) (bytesOf b)
+            ∙ ap (λ (k : ℕ). k + length (bytesOf b)) (simp (length-take, length-drop) (omega arith)) ∙ sym whole,
+      )
+
+  -- ---- what the joiner says, as the code's tests find it
+
+  module _ (own : ℕ) (h : Header) (store work out : List ℕ) (r : KeepReady a number total b (length work)) (at : ℕ) (e : at ≡ base (a .object)) where
+    -- what is done and answered, where it is known what the joiner says
+    joined-as : (j : Joined) → joinedAt a number total b work ≡ j
+        → outcomeOf (joinReply own h j) (areas (storeAfter a j store) (areaAfter 4 (base (a .object)) (pieceOf (a .id) number total b) j work)) out
+        ≡ outcomeOf (replyTo own h (Join a number total b) (areas store work)) (perform (Join a number total b) (areas store work)) out
+    unfolding perform replyTo
+    joined-as j q = rw q
+
+    -- the area after its record is dropped
+    cleared : (w : List ℕ) → w ≡ cond (ltb at (length work)) (put work at (0 ∷ [])) work → w ≡ put work (base (a .object)) (0 ∷ [])
+    cleared w q = q ∙ simp (lt-ltb at (length work) (omega (arith, e, r .object, r .area))) (ap (λ (n : ℕ). put work n (0 ∷ [])) e)
+
+    -- check 14 looks at no data
+    in-order : (t : Bool) → astray 4 (load at work) (record { id = a .id; total = total; number = number; bytes = [] }) ≡ t
+        → astray 4 (load (base (a .object)) work) (pieceOf (a .id) number total b) ≡ t
+    in-order t q =
+        sym (astray-any 4 (load (base (a .object)) work) (pieceOf (a .id) number total b))
+        ∙ ap (λ (n : ℕ). astray 4 (load n work) (record { id = a .id; total = total; number = number; bytes = [] })) (sym e) ∙ q
+
+    pub lost-outcome : astray 4 (load at work) (record { id = a .id; total = total; number = number; bytes = [] }) ≡ true
+        → (w o : List ℕ) → w ≡ cond (ltb at (length work)) (put work at (0 ∷ [])) work
+        → o ≡ sent (imageOf (Plain (answering own h erroneous) (dataOf [])) ∷ []) out
+        → outcome 14 1 store w o
+        ≡ outcomeOf (replyTo own h (Join a number total b) (areas store work)) (perform (Join a number total b) (areas store work)) out
+    unfolding joinedAt joined areaAfter errorFrame
+    lost-outcome t w o c s = rw (cleared w c, s) (joined-as lost (simp (in-order true t)))
+
+    module _ (t : astray 4 (load at work) (record { id = a .id; total = total; number = number; bytes = [] }) ≡ false) where
+      pub done-outcome : last 4 (pieceOf (a .id) number total b) ≡ true
+          → (x w o : List ℕ) → x ≡ put store (a .offset) (joinedBytes a number b work)
+          → w ≡ cond (ltb at (length work)) (put work at (0 ∷ [])) work
+          → o ≡ sent (imageOf (Plain (answering own h successful) (dataOf [])) ∷ []) out
+          → outcome 0 1 x w o
+          ≡ outcomeOf (replyTo own h (Join a number total b) (areas store work)) (perform (Join a number total b) (areas store work)) out
+      unfolding joinedAt joined areaAfter successFrame
+      done-outcome l x w o p c s =
+          let held = held-part (base (a .object)) number work (omega (arith, r .shaped .inside, r .shaped .room)) in
+          rw (p, cleared w c, s)
+          (joined-as (done (joinedBytes a number b work)) (simp (in-order false t, l) (rw held)))
+
+      pub kept-outcome : last 4 (pieceOf (a .id) number total b) ≡ false
+          → (w : List ℕ) → w ≡ areaAfter 4 (base (a .object)) (pieceOf (a .id) number total b) kept work
+          → outcome 0 0 store w out
+          ≡ outcomeOf (replyTo own h (Join a number total b) (areas store work)) (perform (Join a number total b) (areas store work)) out
+      unfolding joinedAt joined
+      kept-outcome l w q =
+          ap (outcome 0 0 store w) (sym (put-nothing out)) ∙ rw q (joined-as kept (simp (in-order false t, l)))
+
+-- ---- the other plans
+
+module _ (own : ℕ) (h : Header) (store work out : List ℕ) where
+  -- what a plan does and answers
+  abbrev pub After : Plan → Outcome
+  After p = outcomeOf (replyTo own h p (areas store work)) (perform p (areas store work)) out
+
+  pub quiet-outcome : (n : ℕ) → outcome n 0 store work out ≡ After (Quiet n)
+  unfolding perform replyTo
+  quiet-outcome n = ap (outcome n 0 store work) (sym (put-nothing out))
+
+  pub error-outcome : (n object : ℕ) (o : List ℕ) → o ≡ sent (imageOf (Plain (answering own h erroneous) (dataOf [])) ∷ []) out
+      → outcome n 1 store work o ≡ After (Error n object)
+  unfolding perform replyTo errorFrame
+  error-outcome n object o s = rw s
+
+  pub read-outcome : (a : Attribute) (part o : List ℕ) (count : ℕ) → part ≡ partOf a store
+      → count ≡ length (readFrames own h part) → o ≡ sent (readFrames own h part) out
+      → outcome 0 count store work o ≡ After (Read a)
+  unfolding perform replyTo
+  read-outcome a part o count e k s = rw (k, s, e)
+
+  pub write-outcome : (a : Attribute) (b : Data) (x o : List ℕ) → x ≡ put store (a .offset) (bytesOf b)
+      → o ≡ sent (imageOf (Plain (answering own h successful) (dataOf [])) ∷ []) out
+      → outcome 0 1 x work o ≡ After (Write a b)
+  unfolding perform replyTo successFrame
+  write-outcome a b x o e s = rw (e, s)
+
+-- ---- a call
+
+-- a plan that sends a frame is of an address that takes seven bits
+data Sends (p : Plan) (own : ℕ) : Type 0 where
+  none : (n : ℕ) → p ≡ Quiet n → Sends p own
+  low : own % 128 ≡ own → Sends p own
+
+sends : (p : Plan) (own : ℕ) (h : Header) (store work out : ℕ) → Ready p own h store work out → Sends p own
+sends (Quiet n) own h store work out r = none n refl
+sends (Error n object) own h store work out r = low (omega (arith, r .address))
+sends (Read a) own h store work out r = low (omega (arith, r .0 .address))
+sends (Write a b) own h store work out r = low (omega (arith, r .0 .address))
+sends (Join a number total b) own h store work out r = low (omega (arith, r .0 .address))
+
+pub low-ready : (p : Plan) (own : ℕ) (h : Header) (store work out : ℕ) → Ready p own h store work out → Ready p (own % 128) h store work out
+low-ready p own h store work out r = go (sends p own h store work out r)
+  where
+    go : Sends p own → Ready p (own % 128) h store work out
+    go (none n e) = subst (λ (q : Plan). Ready q (own % 128) h store work out) (sym e) tt
+    go (low e) = subst (λ (k : ℕ). Ready p k h store work out) (sym e) r
+
+pub low-reply : (p : Plan) (own : ℕ) (h : Header) (x : Areas) (store work out : ℕ) → Ready p own h store work out → replyTo (own % 128) h p x ≡ replyTo own h p x
+unfolding replyTo
+low-reply p own h x store work out r = go (sends p own h store work out r)
+  where
+    go : Sends p own → replyTo (own % 128) h p x ≡ replyTo own h p x
+    go (none n e) = rw e
+    go (low e) = ap (λ (k : ℕ). replyTo k h p x) e
+
+module _ (r : List ℕ) (own : ℕ) (table store work out : List ℕ) (p : Plan) (e : p ≡ planOf (settingOf own table store work out) r) (h : Header) (k : h ≡ headerOf r) where
+  pub step-ready : Ready p (own % 128) h (length store) (length work) (length out)
+  step-ready = rw (e, k) (low-ready (planOf (settingOf own table store work out) r) own (headerOf r) (length store) (length work) (length out) (ready (settingOf own table store work out) r))
+
+  pub step-outcome : After (own % 128) h store work out p ≡ stepOf r own table store work out
+  unfolding stepOf stepWith
+  step-outcome =
+      let s = settingOf own table store work out in
+      rw (e, k, low-reply (planOf s r) own (headerOf r) (areas store work) (length store) (length work) (length out) (ready s r))

@@ -1,0 +1,68 @@
+use Prim.Native.Nat.{ℕ, _+_, _-_, _*_, _≤_}
+use mathlib.Core.List.{List}
+use mathlib.Core.Path.{_≡_, refl, ap, _∙_}
+use native.Mathlib.Omega.{arith}
+use lib.ListN.{length}
+use borrow.Author.Needs.{needs}
+use Rattle.laws.specs.Put.{put}
+use Rattle.device.specs.Step.{fragmentFrame, fragmentFrames, sent}
+use Rattle.device.proofs.Sending.{fragments-none, fragments-more}
+use Rattle.device.proofs.answering.send_fragments.Statement.{statement}
+use Rattle.device.proofs.answering.send_fragments.Tie as tie
+
+abbrev Inv-loop : tie.InvT-loop
+Inv-loop about part count out₀ n₀ out n = (n ≤ count) × (length out ≡ length out₀) × (out ≡ sent (fragmentFrames about part n) out₀)
+
+abbrev μ-loop : tie.MeasureT-loop
+μ-loop about part count out₀ n₀ out n = count - n
+
+loop-holds : tie.Need-loop-holds Inv-loop μ-loop
+loop-holds c = let a = c .before .before .args in (omega arith, refl, fragments-none (a .about) (a .part .now) (a .out .now))
+
+send-fragment-requires : tie.Need-send-fragment-requires Inv-loop μ-loop
+send-fragment-requires c κs =
+    let s = c .before .before .before .before .before in
+    (s .pre .0, s .pre .1, omega (arith, s .pre .2), omega (arith, s .pre .3))
+
+add-n : tie.Need-add-n Inv-loop μ-loop
+add-n c = omega arith
+
+loop-less : tie.Need-loop-less Inv-loop μ-loop
+loop-less c = omega arith
+
+loop-again : tie.Need-loop-again Inv-loop μ-loop
+loop-again c =
+    let l = c .before .before .before .before .before in
+    let s = l .before .before .before in
+    let a = s .args in
+    let f = c .before .before .send-fragment in
+    let n = l .loop .n in (
+      omega arith,
+      f .kept .1 .1 .1 .0 ∙ l .loop .inv .1,
+      f .ensures ∙ ap (λ (o : List ℕ). put o (n * 10) (fragmentFrame (a .about) (a .part .now) n)) (l .loop .inv .2)
+          ∙ fragments-more (a .about) (a .part .now) (a .out .now) n (omega (arith, s .pre .3)),
+    )
+
+same-length : tie.Need-same-length Inv-loop μ-loop
+same-length c = c .before .loop .inv .1
+
+returns : tie.Need-returns Inv-loop μ-loop
+returns c =
+    let l = c .before in
+    let a = l .before .before .before .args in
+    let e : l .loop .n ≡ a .count = omega arith in
+    l .loop .inv .2 ∙ ap (λ (k : ℕ). sent (fragmentFrames (a .about) (a .part .now) k) (a .out .now)) e
+
+pub send-fragments-spec : {M : Type 1} → statement M
+send-fragments-spec =
+    tie.close
+    (tie.spec
+    Inv-loop
+    μ-loop
+    loop-holds
+    send-fragment-requires
+    add-n
+    loop-less
+    loop-again
+    same-length
+    returns)

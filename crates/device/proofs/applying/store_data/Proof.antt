@@ -1,0 +1,81 @@
+use Prim.Native.Nat.{_+_, _-_}
+use mathlib.Core.Path.{_≡_, ap, _∙_}
+use native.Mathlib.Omega.{arith}
+use lib.ListN.{length, take, drop, length-take}
+use borrow.Rule.Slice.PartMut.{mid-len}
+use Rattle.laws.proofs.Bytes.{copied}
+use Rattle.codec.specs.Writing.{bytesOf}
+use Rattle.join.proofs.Parts.{put-mid}
+use borrow.Author.Needs.{needs}
+use Rattle.device.proofs.applying.store_data.Statement.{statement}
+use Rattle.device.proofs.applying.store_data.Tie as tie
+
+places-of-requires : tie.Need-places-of-requires
+places-of-requires c κs = search needs
+
+wide-requires : tie.Need-wide-requires
+wide-requires c κs = search needs
+
+cast-at : tie.Need-cast-at
+cast-at c = search needs
+
+add-end : tie.Need-add-end
+add-end c = search needs
+
+sub-copy : tie.Need-sub-copy
+sub-copy c = search needs
+
+part-copy-start : tie.Need-part-copy-start
+part-copy-start c = search needs
+
+part-copy-end : tie.Need-part-copy-end
+part-copy-end c = search needs
+
+sub-copy-2 : tie.Need-sub-copy-2
+sub-copy-2 c = search needs
+
+part-copy-start-2 : tie.Need-part-copy-start-2
+part-copy-start-2 c = search needs
+
+part-copy-end-2 : tie.Need-part-copy-end-2
+part-copy-end-2 c = search needs
+
+copy-requires : tie.Need-copy-requires
+copy-requires c κs = search needs
+
+same-length : tie.Need-same-length
+same-length c = search needs
+
+returns : tie.Need-returns
+unfolding bytesOf
+returns c =
+    let w = c .before .before .before .before .before .before .before in
+    let s = w .before .before .before in
+    let a = s .args in
+    let z : w .wide .result - 0 ≡ w .wide .result = omega arith in
+    let src = take (w .wide .result - 0) (w .before .places-of .result) in
+    let b : src ≡ bytesOf (a .body) = rw (z, w .wide .ensures, w .before .places-of .ensures) in
+    let long : length (bytesOf (a .body)) ≡ w .wide .result = rw length-take (omega arith) in
+    let at = a .to .offset in
+    let end = at + w .wide .result in
+    let room = mid-len at end (a .store .now) (omega arith) in
+    put-mid at end (a .store .now) _ (bytesOf (a .body)) (omega (arith, long))
+    (c .before .before .copy .ensures .1 ∙ copied src (take (end - at) (drop at (a .store .now))) (ap length b ∙ omega (arith, long, room)) ∙ b)
+
+pub store-data-spec : {M : Type 1} → statement M
+store-data-spec =
+    tie.close
+    (tie.spec
+    places-of-requires
+    wide-requires
+    cast-at
+    add-end
+    sub-copy
+    part-copy-start
+    part-copy-end
+    sub-copy-2
+    part-copy-start-2
+    part-copy-end-2
+    copy-requires
+    same-length
+    returns)

@@ -1,0 +1,146 @@
+// What a plan does: all that alters the lent areas.
+ghost use mathlib.Core.Path.{_≡_};
+ghost use mathlib.Core.Bool.{true};
+ghost use lib.ListN.{length};
+ghost use Rattle.laws.specs.Put.{put};
+ghost use Rattle.codec.specs.Writing.{bytesOf};
+ghost use Rattle.join.specs.Work.{kept, base, last, areaAfter};
+ghost use Rattle.device.specs.Checks.{pieceOf};
+ghost use Rattle.device.specs.Step.{perform, replyTo, outcomeOf};
+ghost use Rattle.device.specs.Code.{Answerable, WriteReady, KeepReady, JoinReady, Ready, joinedBytes, areas, outcome};
+use crate::Plan;
+use crate::Reply;
+use crate::answering::send_bare;
+use crate::answering::send_part;
+use crate::sizes::wide;
+use codec::Data;
+use codec::Header;
+use table::Attribute;
+
+// A whole Write: the store's middle part at offset and length is lent to the copying routine.
+fn store_data(to: Attribute, body: Data, store: &mut [u8])
+    requires { ⌜ WriteReady to body (length (now store)) ⌝ }
+    ensures { λ _. ⌜ now (store .exit) ≡ put (now (store .entry)) (to .offset) (bytesOf body) ⌝ }
+{
+    let places = codec::places_of(body);
+    let n = wide(body.len);
+    let at = to.offset as usize;
+    let end = at + n;
+    bytes::copy(&places[0..n], &mut store[at..end]);
+}
+
+// The last fragment: the joined bytes are written into the attribute's part of the store.
+fn store_joined(to: Attribute, number: u8, total: u8, body: Data, work: &[u8], store: &mut [u8])
+    requires { ⌜ JoinReady to number total body (length (now store)) (length (now work)) × (last 4 (pieceOf (to .id) number total body) ≡ true) ⌝ }
+    ensures { λ _. ⌜ now (store .exit) ≡ put (now (store .entry)) (to .offset) (joinedBytes to number body (now (work .entry))) ⌝ }
+{
+    let places = codec::places_of(body);
+    let n = wide(body.len);
+    let start = to.offset as usize;
+    let end = start + wide(to.len);
+    join::join_into(
+        work,
+        join::place_of(to.object),
+        number,
+        &places[0..n],
+        &mut store[start..end],
+    );
+}
+
+// A fragment before the last: it is kept in the object's record.
+fn keep_piece(to: Attribute, number: u8, total: u8, body: Data, work: &mut [u8])
+    requires { ⌜ KeepReady to number total body (length (now work)) ⌝ }
+    ensures { λ _. ⌜ now (work .exit) ≡ areaAfter 4 (base (to .object)) (pieceOf (to .id) number total body) kept (now (work .entry)) ⌝ }
+{
+    let places = codec::places_of(body);
+    let n = wide(body.len);
+    join::keep(
+        work,
+        join::place_of(to.object),
+        to.id,
+        total,
+        number,
+        &places[0..n],
+    );
+}
+
+// A fragment of a Write: out of order, the last, or kept.
+fn apply_join(
+    own: u8,
+    h: Header,
+    to: Attribute,
+    number: u8,
+    total: u8,
+    body: Data,
+    store: &mut [u8],
+    work: &mut [u8],
+    out: &mut [u8],
+) -> Reply
+    requires { ⌜ Answerable own h (length (now out)) × JoinReady to number total body (length (now store)) (length (now work)) ⌝ }
+    ensures { λ r. ⌜ outcome (r .number) (r .count) (now (store .exit)) (now (work .exit)) (now (out .exit))
+        ≡ outcomeOf (replyTo own h (Plan.Join to number total body) (areas (now (store .entry)) (now (work .entry)))) (perform (Plan.Join to number total body) (areas (now (store .entry)) (now (work .entry)))) (now (out .entry)) ⌝ }
+{
+    let at = join::place_of(to.object);
+    if join::is_astray(work, at, to.id, total, number) {
+        join::clear(work, at);
+        send_bare(own, h, 2, out);
+        return Reply {
+            number: 14,
+            count: 1,
+        };
+    }
+    if join::is_last(total, number) {
+        store_joined(to, number, total, body, work, store);
+        join::clear(work, at);
+        send_bare(own, h, 1, out);
+        return Reply {
+            number: 0,
+            count: 1,
+        };
+    }
+    keep_piece(to, number, total, body, work);
+    Reply {
+        number: 0,
+        count: 0,
+    }
+}
+
+// What is done and answered.
+pub(crate) fn apply(
+    plan: Plan,
+    own: u8,
+    h: Header,
+    store: &mut [u8],
+    work: &mut [u8],
+    out: &mut [u8],
+) -> Reply
+    requires { ⌜ Ready plan own h (length (now store)) (length (now work)) (length (now out)) ⌝ }
+    ensures { λ r. ⌜ outcome (r .number) (r .count) (now (store .exit)) (now (work .exit)) (now (out .exit))
+        ≡ outcomeOf (replyTo own h plan (areas (now (store .entry)) (now (work .entry)))) (perform plan (areas (now (store .entry)) (now (work .entry)))) (now (out .entry)) ⌝ }
+{
+    match plan {
+        Plan::Quiet(number) => Reply { number, count: 0 },
+        Plan::Error { number, object: _ } => {
+            send_bare(own, h, 2, out);
+            Reply { number, count: 1 }
+        }
+        Plan::Read(a) => {
+            let count = send_part(own, h, table::part(a, store), out);
+            Reply { number: 0, count }
+        }
+        Plan::Write { to, body } => {
+            store_data(to, body, store);
+            send_bare(own, h, 1, out);
+            Reply {
+                number: 0,
+                count: 1,
+            }
+        }
+        Plan::Join {
+            to,
+            number,
+            total,
+            body,
+        } => apply_join(own, h, to, number, total, body, store, work, out),
+    }
+}

@@ -1,0 +1,52 @@
+-- DETERMINATION: two outcomes that meet a public function's contract are equal, and no contract asks anything of a caller.
+use mathlib.Core.Path.{_≡_, sym, _∙_}
+use denote.Ref.{now}
+use Rattle.join.proofs.place.place_of.Reads as place-of
+use Rattle.join.proofs.order.is_astray.Reads as is-astray
+use Rattle.join.proofs.order.is_last.Reads as is-last
+use Rattle.join.proofs.keeping.keep.Reads as keep
+use Rattle.join.proofs.keeping.clear.Reads as clear
+use Rattle.join.proofs.joining.join_into.Reads as join-into
+
+-- ---- the result
+
+pub place-of-determined : (κs : _) (args : _) (r r' : _) (s s' : _) → place-of.Post κs args r s → place-of.Post κs args r' s' → r ≡ r'
+place-of-determined κs args r r' s s' p q = p ∙ sym q
+
+pub is-astray-determined : (κs : _) (args : _) (r r' : _) (s s' : _) → is-astray.Post κs args r s → is-astray.Post κs args r' s' → r ≡ r'
+is-astray-determined κs args r r' s s' p q = p ∙ sym q
+
+pub is-last-determined : (κs : _) (args : _) (r r' : _) (s s' : _) → is-last.Post κs args r s → is-last.Post κs args r' s' → r ≡ r'
+is-last-determined κs args r r' s s' p q = p ∙ sym q
+
+-- ---- the lent slice at exit
+
+pub keep-determined : (κs : _) (args : _) (r r' : _) (s s' : _) → keep.Post κs args r s → keep.Post κs args r' s' → now (s .0) ≡ now (s' .0)
+keep-determined κs args r r' s s' p q = p ∙ sym q
+
+pub clear-determined : (κs : _) (args : _) (r r' : _) (s s' : _) → clear.Post κs args r s → clear.Post κs args r' s' → now (s .0) ≡ now (s' .0)
+clear-determined κs args r r' s s' p q = p ∙ sym q
+
+pub join-into-determined : (κs : _) (args : _) (r r' : _) (s s' : _) → join-into.Post κs args r s → join-into.Post κs args r' s'
+    → now (s .1 .1 .1 .1 .0) ≡ now (s' .1 .1 .1 .1 .0)
+join-into-determined κs args r r' s s' p q = p ∙ sym q
+
+-- ---- nothing is asked of a caller
+
+pub place-of-asks-nothing : (κs : _) (args : _) → place-of.Asked κs args
+place-of-asks-nothing κs args = tt
+
+pub is-astray-asks-nothing : (κs : _) (args : _) → is-astray.Asked κs args
+is-astray-asks-nothing κs args = tt
+
+pub is-last-asks-nothing : (κs : _) (args : _) → is-last.Asked κs args
+is-last-asks-nothing κs args = tt
+
+pub keep-asks-nothing : (κs : _) (args : _) → keep.Asked κs args
+keep-asks-nothing κs args = tt
+
+pub clear-asks-nothing : (κs : _) (args : _) → clear.Asked κs args
+clear-asks-nothing κs args = tt
+
+pub join-into-asks-nothing : (κs : _) (args : _) → join-into.Asked κs args
+join-into-asks-nothing κs args = tt

@@ -1,0 +1,31 @@
+use native.Mathlib.Nat.{div-one}
+use borrow.Author.Needs.{needs}
+use Rattle.laws.proofs.Tests.{tests}
+use Rattle.table.specs.Descriptor.{descriptorSize}
+use Rattle.table.proofs.descriptor.descriptor_size.Statement.{statement}
+use Rattle.table.proofs.descriptor.descriptor_size.Tie as tie
+
+returns : tie.Need-returns
+unfolding descriptorSize
+returns c = search tests
+
+returns-2 : tie.Need-returns-2
+unfolding descriptorSize
+returns-2 c = search tests
+
+cast-number : tie.Need-cast-number
+cast-number c = search needs
+
+add-number : tie.Need-add-number
+add-number c = search needs
+
+size-by-requires : tie.Need-size-by-requires
+size-by-requires c κs = search needs
+
+returns-3 : tie.Need-returns-3
+unfolding descriptorSize
+returns-3 c = search (tests, div-one, c .size-by .ensures)
+
+pub descriptor-size-spec : {M : Type 1} → statement M
+descriptor-size-spec =
+    tie.close (tie.spec returns returns-2 cast-number add-number size-by-requires returns-3)

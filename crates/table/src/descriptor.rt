@@ -1,0 +1,89 @@
+// The size of what a data descriptor describes (01, "Descriptor sizes"; 001, section 5).
+ghost use mathlib.Core.Path.{_≡_};
+ghost use Prim.Native.Nat.{_≤_};
+ghost use Rattle.table.specs.Descriptor.{sizeBytes, booleanSize, realSize, sizeBy, descriptorSize};
+
+// The type numbers that are served (001, figure 11; 01 for Signed).
+const SIGNED: u16 = 0;
+
+const BOOLEAN: u16 = 1;
+
+const UNSIGNED: u16 = 4;
+
+const EXTENDED: u16 = 5;
+
+const REAL: u16 = 6;
+
+const CHARACTER: u16 = 7;
+
+// The bytes that the size bits name: byte, word or long; 0 where they name none.
+fn size_bytes(size: u16) -> u8
+    ensures { λ r. ⌜ r ≡ sizeBytes size ⌝ }
+{
+    match size {
+        1 => 1,
+        2 => 2,
+        3 => 4,
+        _ => 0,
+    }
+}
+
+// A number of points: by the number where no size is given, else as sized if they fit in its bits.
+fn boolean_size(size: u16, number: u8) -> u8
+    ensures { λ r. ⌜ r ≡ booleanSize size number ⌝ }
+{
+    if size != 0 {
+        let bytes = size_bytes(size);
+        if 8 * bytes < number {
+            return 0;
+        }
+        return bytes;
+    }
+    if number <= 8 {
+        return 1;
+    }
+    if number <= 16 {
+        return 2;
+    }
+    4
+}
+
+// A number of single precision: long, or refused.
+fn real_size(size: u16) -> u8
+    ensures { λ r. ⌜ r ≡ realSize size ⌝ }
+{
+    if size == 3 {
+        return 4;
+    }
+    0
+}
+
+// By type, size bits and number; 0 for every type that is not served.
+fn size_by(kind: u16, size: u16, number: u8) -> u8
+    requires { ⌜ number ≤ 32 ⌝ }
+    ensures { λ r. ⌜ r ≡ sizeBy kind size number ⌝ }
+{
+    match kind {
+        BOOLEAN => boolean_size(size, number),
+        SIGNED => size_bytes(size),
+        UNSIGNED => size_bytes(size),
+        REAL => real_size(size),
+        CHARACTER => number,
+        EXTENDED => 2 * number,
+        _ => 0,
+    }
+}
+
+// The size of what a descriptor describes, in bytes; 0 where it is refused.
+pub fn descriptor_size(descriptor: u16) -> u8
+    ensures { λ r. ⌜ r ≡ descriptorSize descriptor ⌝ }
+{
+    if descriptor / 4096 % 4 != 0 {
+        return 0;
+    }
+    if descriptor / 128 % 2 != 0 {
+        return 0;
+    }
+    let number = (descriptor % 32) as u8 + 1;
+    size_by(descriptor / 256 % 16, descriptor / 32 % 4, number)
+}
