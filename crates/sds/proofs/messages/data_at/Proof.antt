@@ -1,0 +1,42 @@
+use Rattle.sds.specs.Border.{dataAt}
+use borrow.Author.Needs.{needs}
+use Rattle.sds.proofs.messages.data_at.Statement.{statement}
+use Rattle.sds.proofs.messages.data_at.Tie as tie
+
+shared-slice-read-t3 : tie.Need-shared-slice-read-t3
+shared-slice-read-t3 c = search needs
+
+shared-slice-read-t5 : tie.Need-shared-slice-read-t5
+shared-slice-read-t5 c = search needs
+
+shared-slice-read-t7 : tie.Need-shared-slice-read-t7
+shared-slice-read-t7 c = search needs
+
+shared-slice-read-t9 : tie.Need-shared-slice-read-t9
+shared-slice-read-t9 c = search needs
+
+shared-slice-read-t11 : tie.Need-shared-slice-read-t11
+shared-slice-read-t11 c = search needs
+
+shared-slice-read-t13 : tie.Need-shared-slice-read-t13
+shared-slice-read-t13 c = search needs
+
+shared-slice-read-t15 : tie.Need-shared-slice-read-t15
+shared-slice-read-t15 c = search needs
+
+returns : tie.Need-returns
+unfolding dataAt
+returns c = cc
+
+pub data-at-spec : {M : Type 1} → statement M
+data-at-spec =
+    tie.close
+    (tie.spec
+    shared-slice-read-t3
+    shared-slice-read-t5
+    shared-slice-read-t7
+    shared-slice-read-t9
+    shared-slice-read-t11
+    shared-slice-read-t13
+    shared-slice-read-t15
+    returns)

@@ -1,0 +1,128 @@
+-- What C sees: a message as 16 bytes, and what each entry point answers.
+use Prim.Native.Nat.{ℕ, _+_, _*_, _%_}
+use mathlib.Core.Bool.{Bool, true, false, cond, not, _&&_, _||_}
+use mathlib.Core.List.{List, [], _∷_}
+use lib.ListN.{length}
+use lib.Dec.{eqb, ltb}
+use Rattle.laws.specs.Bytes.{byteAt, padded}
+use Rattle.laws.specs.Checks.{Check, firstOf}
+use Rattle.codec.specs.declared.Subject.{Subject}
+use Rattle.codec.specs.declared.Data.{Data}
+use Rattle.codec.specs.declared.Message.{Message}
+use Rattle.codec.specs.declared.Message.the-variants.{Short, Plain, Fragment}
+use Rattle.codec.specs.declared.Answer.{Answer}
+use Rattle.codec.specs.declared.Answer.the-variants.{Got, Refused}
+use Rattle.codec.specs.Reading.{readOf, numberOf}
+use Rattle.codec.specs.Writing.{placesOf, carried, imageOf}
+use Rattle.table.specs.Descriptor.{descriptorSize}
+use Rattle.table.specs.Table.{entrySize, wellFormed}
+use Rattle.device.specs.Step.{Outcome}
+
+-- "a message at this border is 16 bytes"
+abbrev pub messageSize : ℕ
+messageSize = 16
+
+-- "kind, Dir/Pri, address, service, Request/Response, object, ID, fragment number, total, data length, six data bytes"
+unfoldable pub longBytes : ℕ → Subject → ℕ → ℕ → Data → List ℕ
+longBytes kind u number total b =
+    kind ∷ u .dir ∷ u .address ∷ u .service ∷ u .response ∷ u .object ∷ u .id ∷ number ∷ total ∷ b .len ∷ placesOf b
+
+-- "kind 0 short, 1 whole, 2 fragment"; "places that its kind does not use are 0"
+unfoldable pub messageBytes : Message → List ℕ
+messageBytes (Short dir address service) = padded messageSize (0 ∷ dir ∷ address ∷ service ∷ [])
+messageBytes (Plain u b) = longBytes 1 u 0 0 b
+messageBytes (Fragment u number total b) = longBytes 2 u number total b
+
+-- the same places, read
+unfoldable pub subjectAt : List ℕ → Subject
+subjectAt l = record {
+  dir = byteAt l 1;
+  address = byteAt l 2;
+  service = byteAt l 3;
+  response = byteAt l 4;
+  object = byteAt l 5;
+  id = byteAt l 6;
+}
+
+unfoldable pub dataAt : List ℕ → Data
+dataAt l = record {
+  len = byteAt l 9;
+  b0 = byteAt l 10;
+  b1 = byteAt l 11;
+  b2 = byteAt l 12;
+  b3 = byteAt l 13;
+  b4 = byteAt l 14;
+  b5 = byteAt l 15;
+}
+
+-- the message of 16 bytes, by their kind; what they hold besides is looked at by `bordered`
+unfoldable pub messageAt : List ℕ → Message
+messageAt l =
+    cond (eqb (byteAt l 0) 0)
+    (Short (byteAt l 1) (byteAt l 2) (byteAt l 3))
+    (cond (eqb (byteAt l 0) 1)
+    (Plain (subjectAt l) (dataAt l))
+    (Fragment (subjectAt l) (byteAt l 7) (byteAt l 8) (dataAt l)))
+
+-- whether two lists are equal
+abbrev pub same : List ℕ → List ℕ → Bool
+same [] [] = true
+same [] (y ∷ m) = false
+same (x ∷ l) [] = false
+same (x ∷ l) (y ∷ m) = eqb x y && same l m
+
+-- whether 16 bytes are those of their message: no other kind, and 0 in each place that the kind does not use
+unfoldable pub bordered : List ℕ → Bool
+bordered l = same (messageBytes (messageAt l)) l
+
+-- reading: 1 where the message buffer has another length, else the codec's number
+unfoldable pub borderReadNumber : List ℕ → List ℕ → ℕ
+borderReadNumber r l = cond (eqb (length l) messageSize) (numberOf (readOf r)) 1
+
+-- the message buffer afterwards: the message that was read; "nothing alters" where reading is refused
+abbrev pub answeredIn : Answer → List ℕ → List ℕ
+answeredIn (Got m) l = messageBytes m
+answeredIn (Refused n) l = l
+
+unfoldable pub borderRead : List ℕ → List ℕ → List ℕ
+borderRead r l = cond (eqb (length l) messageSize) (answeredIn (readOf r) l) l
+
+-- "a message buffer of another length is refused with 1, like a record's"
+abbrev pub missized : List ℕ → List ℕ → Bool
+missized l r = not (eqb (length l) messageSize) || not (eqb (length r) 10)
+
+-- the refusals of writing: a length, then a message that no readable frame carries
+abbrev pub borderWriteChecks : List ℕ → List ℕ → List Check
+borderWriteChecks l r = (missized l r, 1) ∷ (not (bordered l && carried (messageAt l)), 3) ∷ []
+
+unfoldable pub borderWriteNumber : List ℕ → List ℕ → ℕ
+borderWriteNumber l r = firstOf (borderWriteChecks l r)
+
+-- the record afterwards
+unfoldable pub borderWrite : List ℕ → List ℕ → List ℕ
+borderWrite l r = cond (eqb (borderWriteNumber l r) 0) (imageOf (messageAt l)) r
+
+-- "0 where it is refused": a descriptor is 16 bits
+unfoldable pub borderSize : ℕ → ℕ
+borderSize d = cond (ltb 65535 d) 0 (descriptorSize d)
+
+-- 01's check 1, as far as it concerns table and store
+abbrev pub unfit : List ℕ → ℕ → Bool
+unfit t size = not (eqb (length t % entrySize) 0) || ltb 8192 (length t) || ltb 32768 size
+
+-- then check 2
+abbrev pub tableChecks : List ℕ → ℕ → List Check
+tableChecks t size = (unfit t size, 1) ∷ (not (wellFormed t size), 2) ∷ []
+
+-- one frame: "number + 256 * count", and what the lent areas hold
+pub record Stepped : Type 0 where
+  pub reply : ℕ
+  pub store : List ℕ
+  pub work : List ℕ
+  pub output : List ℕ
+
+abbrev pub stepped : ℕ → List ℕ → List ℕ → List ℕ → Stepped
+stepped reply store work output = record { reply = reply; store = store; work = work; output = output }
+
+abbrev pub borderStep : Outcome → Stepped
+borderStep o = stepped (o .number + 256 * o .count) (o .store) (o .work) (o .output)
