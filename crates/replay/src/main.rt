@@ -1,7 +1,6 @@
 // Plays a capture, records of ten bytes from standard input, into the sample device of 01 and prints each reply: its number, a blank and the count
 // of frames. Store and work area are zero at first, and keep what the records make of them.
 ghost use Prim.Native.Nat.{_+_, _≤_};
-ghost use mathlib.Core.Path.{_≡_};
 ghost use lib.ListN.{length};
 
 mod line;
