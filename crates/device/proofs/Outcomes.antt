@@ -23,8 +23,8 @@ use Rattle.device.specs.declared.Plan.{Plan}
 use Rattle.device.specs.declared.Plan.the-variants.{Quiet, Error, Read, Write, Join}
 use Rattle.table.specs.Table.{partOf}
 use Rattle.device.specs.Checks.{pieceOf}
-use Rattle.device.specs.Step.{storeAfter, joinedAt, perform, answering, errorFrame, successFrame, readFrames, joinReply, replyTo, planOf, Areas, Outcome, outcomeOf, sent, settingOf, stepWith, stepOf}
-use Rattle.device.specs.Code.{KeepReady, Ready, joinedBytes, areas, outcome}
+use Rattle.device.specs.Step.{storeAfter, joinedAt, perform, answering, errorFrame, successFrame, readFrames, joinReply, replyTo, planOf, Areas, outcomeOf, sent, settingOf, stepWith, stepOf}
+use Rattle.device.specs.Code.{KeepReady, Ready, joinedBytes, areas, outcome, carriedOut}
 use Rattle.device.proofs.Ready.{ready}
 
 -- the first places of data, as many as it has bytes
@@ -60,7 +60,7 @@ module _ (a : Attribute) (number total : ℕ) (b : Data) where
     -- what is done and answered, where it is known what the joiner says
     joined-as : (j : Joined) → joinedAt a number total b work ≡ j
         → outcomeOf (joinReply own h j) (areas (storeAfter a j store) (areaAfter 4 (base (a .object)) (pieceOf (a .id) number total b) j work)) out
-        ≡ outcomeOf (replyTo own h (Join a number total b) (areas store work)) (perform (Join a number total b) (areas store work)) out
+        ≡ carriedOut own h (Join a number total b) store work out
     unfolding perform replyTo
     joined-as j q = rw q
 
@@ -79,7 +79,7 @@ module _ (a : Attribute) (number total : ℕ) (b : Data) where
         → (w o : List ℕ) → w ≡ cond (ltb at (length work)) (put work at (0 ∷ [])) work
         → o ≡ sent (imageOf (Plain (answering own h erroneous) (dataOf [])) ∷ []) out
         → outcome 14 1 store w o
-        ≡ outcomeOf (replyTo own h (Join a number total b) (areas store work)) (perform (Join a number total b) (areas store work)) out
+        ≡ carriedOut own h (Join a number total b) store work out
     unfolding joinedAt joined areaAfter errorFrame
     lost-outcome t w o c s = rw (cleared w c, s) (joined-as lost (simp (in-order true t)))
 
@@ -89,7 +89,7 @@ module _ (a : Attribute) (number total : ℕ) (b : Data) where
           → w ≡ cond (ltb at (length work)) (put work at (0 ∷ [])) work
           → o ≡ sent (imageOf (Plain (answering own h successful) (dataOf [])) ∷ []) out
           → outcome 0 1 x w o
-          ≡ outcomeOf (replyTo own h (Join a number total b) (areas store work)) (perform (Join a number total b) (areas store work)) out
+          ≡ carriedOut own h (Join a number total b) store work out
       unfolding joinedAt joined areaAfter successFrame
       done-outcome l x w o p c s =
           let held = held-part (base (a .object)) number work (omega (arith, r .shaped .inside, r .shaped .room)) in
@@ -99,7 +99,7 @@ module _ (a : Attribute) (number total : ℕ) (b : Data) where
       pub kept-outcome : last 4 (pieceOf (a .id) number total b) ≡ false
           → (w : List ℕ) → w ≡ areaAfter 4 (base (a .object)) (pieceOf (a .id) number total b) kept work
           → outcome 0 0 store w out
-          ≡ outcomeOf (replyTo own h (Join a number total b) (areas store work)) (perform (Join a number total b) (areas store work)) out
+          ≡ carriedOut own h (Join a number total b) store work out
       unfolding joinedAt joined
       kept-outcome l w q =
           ap (outcome 0 0 store w) (sym (put-nothing out)) ∙ rw q (joined-as kept (simp (in-order false t, l)))
@@ -107,28 +107,24 @@ module _ (a : Attribute) (number total : ℕ) (b : Data) where
 -- ---- the other plans
 
 module _ (own : ℕ) (h : Header) (store work out : List ℕ) where
-  -- what a plan does and answers
-  abbrev pub After : Plan → Outcome
-  After p = outcomeOf (replyTo own h p (areas store work)) (perform p (areas store work)) out
-
-  pub quiet-outcome : (n : ℕ) → outcome n 0 store work out ≡ After (Quiet n)
+  pub quiet-outcome : (n : ℕ) → outcome n 0 store work out ≡ carriedOut own h (Quiet n) store work out
   unfolding perform replyTo
   quiet-outcome n = ap (outcome n 0 store work) (sym (put-nothing out))
 
   pub error-outcome : (n object : ℕ) (o : List ℕ) → o ≡ sent (imageOf (Plain (answering own h erroneous) (dataOf [])) ∷ []) out
-      → outcome n 1 store work o ≡ After (Error n object)
+      → outcome n 1 store work o ≡ carriedOut own h (Error n object) store work out
   unfolding perform replyTo errorFrame
   error-outcome n object o s = rw s
 
   pub read-outcome : (a : Attribute) (part o : List ℕ) (count : ℕ) → part ≡ partOf a store
       → count ≡ length (readFrames own h part) → o ≡ sent (readFrames own h part) out
-      → outcome 0 count store work o ≡ After (Read a)
+      → outcome 0 count store work o ≡ carriedOut own h (Read a) store work out
   unfolding perform replyTo
   read-outcome a part o count e k s = rw (k, s, e)
 
   pub write-outcome : (a : Attribute) (b : Data) (x o : List ℕ) → x ≡ put store (a .offset) (bytesOf b)
       → o ≡ sent (imageOf (Plain (answering own h successful) (dataOf [])) ∷ []) out
-      → outcome 0 1 x work o ≡ After (Write a b)
+      → outcome 0 1 x work o ≡ carriedOut own h (Write a b) store work out
   unfolding perform replyTo successFrame
   write-outcome a b x o e s = rw (e, s)
 
@@ -165,7 +161,7 @@ module _ (r : List ℕ) (own : ℕ) (table store work out : List ℕ) (p : Plan)
   pub step-ready : Ready p (own % 128) h (length store) (length work) (length out)
   step-ready = rw (e, k) (low-ready (planOf (settingOf own table store work out) r) own (headerOf r) (length store) (length work) (length out) (ready (settingOf own table store work out) r))
 
-  pub step-outcome : After (own % 128) h store work out p ≡ stepOf r own table store work out
+  pub step-outcome : carriedOut (own % 128) h p store work out ≡ stepOf r own table store work out
   unfolding stepOf stepWith
   step-outcome =
       let s = settingOf own table store work out in

@@ -22,7 +22,7 @@ use Rattle.join.specs.History.{Shaped}
 use Rattle.device.specs.declared.Plan.{Plan}
 use Rattle.device.specs.declared.Plan.the-variants.{Quiet, Error, Read, Write, Join}
 use Rattle.device.specs.Checks.{Setting, misfit, illFormed, notForUs, noService, notRequest, actionOrEvent, badShape, unknown, noAccess, lengthAsked, wrongLength, wrongPiece, highNumber, pieceOf, soughtIn}
-use Rattle.device.specs.Step.{served, refused, Areas, Outcome}
+use Rattle.device.specs.Step.{served, refused, Areas, perform, replyTo, Outcome, outcomeOf}
 
 -- whether a message is in long form
 abbrev pub isLong : Message → Bool
@@ -114,6 +114,10 @@ outcome number count store work output = record { number = number; count = count
 
 abbrev pub areas : List ℕ → List ℕ → Areas
 areas store work = record { store = store; work = work }
+
+-- what a plan leaves of a call: what is done and answered
+abbrev pub carriedOut : ℕ → Header → Plan → List ℕ → List ℕ → List ℕ → Outcome
+carriedOut own h p store work out = outcomeOf (replyTo own h p (areas store work)) (perform p (areas store work)) out
 
 -- the bytes of a message whose last fragment has come: those that the object's record holds, and the fragment's own
 abbrev pub joinedBytes : Attribute → ℕ → Data → List ℕ → List ℕ

@@ -6,8 +6,7 @@ ghost use Rattle.laws.specs.Put.{put};
 ghost use Rattle.codec.specs.Writing.{bytesOf};
 ghost use Rattle.join.specs.Work.{kept, base, last, areaAfter};
 ghost use Rattle.device.specs.Checks.{pieceOf};
-ghost use Rattle.device.specs.Step.{perform, replyTo, outcomeOf};
-ghost use Rattle.device.specs.Code.{Answerable, WriteReady, KeepReady, JoinReady, Ready, joinedBytes, areas, outcome};
+ghost use Rattle.device.specs.Code.{Answerable, WriteReady, KeepReady, JoinReady, Ready, joinedBytes, outcome, carriedOut};
 use crate::Plan;
 use crate::Reply;
 use crate::answering::send_bare;
@@ -78,7 +77,7 @@ fn apply_join(
 ) -> Reply
     requires { ⌜ Answerable own h (length (now out)) × JoinReady to number total body (length (now store)) (length (now work)) ⌝ }
     ensures { λ r. ⌜ outcome (r .number) (r .count) (now (store .exit)) (now (work .exit)) (now (out .exit))
-        ≡ outcomeOf (replyTo own h (Plan.Join to number total body) (areas (now (store .entry)) (now (work .entry)))) (perform (Plan.Join to number total body) (areas (now (store .entry)) (now (work .entry)))) (now (out .entry)) ⌝ }
+        ≡ carriedOut own h (Plan.Join to number total body) (now (store .entry)) (now (work .entry)) (now (out .entry)) ⌝ }
 {
     let at = join::place_of(to.object);
     if join::is_astray(work, at, to.id, total, number) {
@@ -116,7 +115,7 @@ pub(crate) fn apply(
 ) -> Reply
     requires { ⌜ Ready plan own h (length (now store)) (length (now work)) (length (now out)) ⌝ }
     ensures { λ r. ⌜ outcome (r .number) (r .count) (now (store .exit)) (now (work .exit)) (now (out .exit))
-        ≡ outcomeOf (replyTo own h plan (areas (now (store .entry)) (now (work .entry)))) (perform plan (areas (now (store .entry)) (now (work .entry)))) (now (out .entry)) ⌝ }
+        ≡ carriedOut own h plan (now (store .entry)) (now (work .entry)) (now (out .entry)) ⌝ }
 {
     match plan {
         Plan::Quiet(number) => Reply { number, count: 0 },
