@@ -21,6 +21,7 @@ use Rattle.codec.specs.Writing.{Octets, carried, imageOf, writeChecks, w
 use Rattle.codec.proofs.Trips.{written, written-read, read-written, read-is-carried, image-octets}
 use Rattle.codec.proofs.bodies.data_from.Reads as data-from
 use Rattle.codec.proofs.bodies.places_of.Reads as places-of
+use Rattle.codec.proofs.octets.byte_at.Reads as byte-at
 use Rattle.codec.proofs.heading.header_of.Reads as header-of
 use Rattle.codec.proofs.reading.read.Reads as read
 use Rattle.codec.proofs.writing.write.Reads as write
@@ -95,6 +96,9 @@ header-determined κs args r r' s s' p q = p ∙ sym q
 pub data-determined : (κs : _) (args : _) (r r' : _) (s s' : _) → data-from.Post κs args r s → data-from.Post κs args r' s' → r ≡ r'
 data-determined κs args r r' s s' p q = p ∙ sym q
 
+pub byte-determined : (κs : _) (args : _) (r r' : _) (s s' : _) → byte-at.Post κs args r s → byte-at.Post κs args r' s' → r ≡ r'
+byte-determined κs args r r' s s' p q = p ∙ sym q
+
 pub places-determined : (κs : _) (args : _) (r r' : _) (s s' : _) → places-of.Post κs args r s → places-of.Post κs args r' s' → r ≡ r'
 places-determined κs args r r' s s' p q = p ∙ sym q
 
@@ -112,6 +116,9 @@ header-asks-nothing κs args = tt
 
 pub data-asks-nothing : (κs : _) (args : _) → data-from.Asked κs args
 data-asks-nothing κs args = tt
+
+pub byte-asks-nothing : (κs : _) (args : _) → byte-at.Asked κs args
+byte-asks-nothing κs args = tt
 
 pub places-asks-nothing : (κs : _) (args : _) → places-of.Asked κs args
 places-asks-nothing κs args = tt

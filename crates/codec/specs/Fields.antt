@@ -4,7 +4,7 @@ use mathlib.Core.List.{List}
 use Rattle.laws.specs.Bytes.{bits, byteAt}
 use Rattle.codec.specs.declared.Header.{Header}
 
--- a record too short to have a byte reads it as 0 (byteAt)
+-- a record too short to have a byte reads it as 0 (byteAt). Byte 3 is the attribute, action or event ID (3.2.2.2.1.1)
 unfoldable pub headerOf : List ℕ → Header
 headerOf r = record {
   dir = bits 7 7 (byteAt r 0);  -- byte 0: Dir/Pri, 0 where the address is the destination (3.2.1.1)
@@ -16,4 +16,4 @@ headerOf r = record {
   flag = bits 5 5 (byteAt r 2);  -- the fragmentation indicator, figure 3.11,
   object = bits 4 0 (byteAt r 2);  -- and the embedded object, figure 3.12
   id = byteAt r 3;
-}  -- byte 3: attribute, action or event ID (3.2.2.2.1.1)
+}

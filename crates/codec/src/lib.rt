@@ -8,6 +8,7 @@ mod writing;
 pub use bodies::data_from;
 pub use bodies::places_of;
 pub use heading::header_of;
+pub use octets::byte_at;
 pub use reading::read;
 pub use writing::write;
 

@@ -1,7 +1,7 @@
--- Two lists of one length, compared from a place on.
+-- Two lists compared, from a place on where they have one length.
 use Prim.Native.Nat.{ℕ, _+_, _<_, _≤_}
-use mathlib.Core.Path.{_≡_, refl}
-use mathlib.Core.Bool.{true, _&&_, and-eq-true-iff}
+use mathlib.Core.Path.{_≡_, refl, ap}
+use mathlib.Core.Bool.{true, false, _&&_, and-eq-true-iff}
 use mathlib.Core.List.{List, [], _∷_}
 use native.Mathlib.Numerals.{add-one}
 use native.Mathlib.Omega.{arith}
@@ -9,7 +9,7 @@ use lib.ListN.{length, getD, drop, drop-of-length-le}
 use lib.Seq.{drop-cons}
 use lib.Dec.{eqb}
 use borrow.Author.Tests.{eqb-true, eq-eqb}
-use Rattle.laws.proofs.Tests.{clash}
+use Rattle.laws.proofs.Tests.{clash, split}
 use Rattle.sds.specs.Border.{same}
 
 module _ (l m : List ℕ) (i : ℕ) where
@@ -33,3 +33,7 @@ same-equal (x ∷ l) (y ∷ m) e =
     let h = eqb-true x y (a .0) in
     let t = same-equal l m (a .1) in
     cc
+
+-- lists of other lengths are not equal
+pub same-lengths : (l m : List ℕ) → (length l ≡ length m → ⊥) → same l m ≡ false
+same-lengths l m h = split (same l m) (λ t. absurd (h (ap length (same-equal l m t)))) (λ f. f)

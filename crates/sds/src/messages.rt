@@ -1,10 +1,10 @@
 // A message as the 16 bytes that C lends.
 ghost use mathlib.Core.Path.{_≡_};
-ghost use lib.ListN.{length};
-ghost use Rattle.sds.specs.Border.{messageSize, longBytes, messageBytes, subjectAt, dataAt, messageAt, same as Border·same, bordered as Border·bordered};
+ghost use Rattle.sds.specs.Border.{longBytes, messageBytes, subjectAt, dataAt, messageAt, same as Border·same, bordered as Border·bordered};
 use codec::Data;
 use codec::Message;
 use codec::Subject;
+use codec::byte_at;
 
 // The bytes of a message.
 pub(crate) const MESSAGE: usize = 16;
@@ -53,45 +53,42 @@ pub(crate) fn message_bytes(m: Message) -> [u8; 16]
 }
 
 fn subject_at(message: &[u8]) -> Subject
-    requires { ⌜ length (now message) ≡ messageSize ⌝ }
     ensures { λ r. ⌜ r ≡ subjectAt (now (message .entry)) ⌝ }
 {
     Subject {
-        dir: message[1],
-        address: message[2],
-        service: message[3],
-        response: message[4],
-        object: message[5],
-        id: message[6],
+        dir: byte_at(message, 1),
+        address: byte_at(message, 2),
+        service: byte_at(message, 3),
+        response: byte_at(message, 4),
+        object: byte_at(message, 5),
+        id: byte_at(message, 6),
     }
 }
 
 fn data_at(message: &[u8]) -> Data
-    requires { ⌜ length (now message) ≡ messageSize ⌝ }
     ensures { λ r. ⌜ r ≡ dataAt (now (message .entry)) ⌝ }
 {
     Data {
-        len: message[9],
-        b0: message[10],
-        b1: message[11],
-        b2: message[12],
-        b3: message[13],
-        b4: message[14],
-        b5: message[15],
+        len: byte_at(message, 9),
+        b0: byte_at(message, 10),
+        b1: byte_at(message, 11),
+        b2: byte_at(message, 12),
+        b3: byte_at(message, 13),
+        b4: byte_at(message, 14),
+        b5: byte_at(message, 15),
     }
 }
 
 // The message of 16 bytes, by their kind. Every kind above 1 is taken for a fragment here: `bordered` tells it from 2.
 pub(crate) fn message_at(message: &[u8]) -> Message
-    requires { ⌜ length (now message) ≡ messageSize ⌝ }
     ensures { λ r. ⌜ r ≡ messageAt (now (message .entry)) ⌝ }
 {
-    let kind = message[0];
+    let kind = byte_at(message, 0);
     if kind == 0 {
         return Message::Short {
-            dir: message[1],
-            address: message[2],
-            service: message[3],
+            dir: byte_at(message, 1),
+            address: byte_at(message, 2),
+            service: byte_at(message, 3),
         };
     }
     let about = subject_at(message);
@@ -101,17 +98,19 @@ pub(crate) fn message_at(message: &[u8]) -> Message
     }
     Message::Fragment {
         about,
-        number: message[7],
-        total: message[8],
+        number: byte_at(message, 7),
+        total: byte_at(message, 8),
         body,
     }
 }
 
-// Whether two slices of one length are equal.
+// Whether two slices are equal.
 fn same(a: &[u8], b: &[u8]) -> bool
-    requires { ⌜ length (now a) ≡ length (now b) ⌝ }
     ensures { λ r. ⌜ r ≡ Border·same (now (a .entry)) (now (b .entry)) ⌝ }
 {
+    if a.len() != b.len() {
+        return false;
+    }
     let mut i = 0;
     while i < a.len() {
         if a[i] != b[i] {
@@ -124,7 +123,6 @@ fn same(a: &[u8], b: &[u8]) -> bool
 
 // Whether 16 bytes are those of their message: writing back what was read tests the kind and all unused places at once.
 pub(crate) fn bordered(message: &[u8]) -> bool
-    requires { ⌜ length (now message) ≡ messageSize ⌝ }
     ensures { λ r. ⌜ r ≡ Border·bordered (now (message .entry)) ⌝ }
 {
     let places = message_bytes(message_at(message));

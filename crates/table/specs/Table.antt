@@ -91,7 +91,7 @@ find t object id = findIn object id (attributes t)
 unfoldable pub partOf : Attribute → List ℕ → List ℕ
 partOf a store = cond (leb (endOf a) (length store)) (take (a .len) (drop (a .offset) store)) []
 
--- what a lookup hands back: lengths are at least 1, so an empty part says that there is none
+-- what a lookup hands back; in a well-formed table lengths are at least 1, so that there an empty part says that there is none
 abbrev pub foundPart : Found → List ℕ → List ℕ
 foundPart (At a) store = partOf a store
 foundPart Nothing store = []
