@@ -1,0 +1,168 @@
+/*
+ * The entry points under a coverage-guided fuzzer (libFuzzer). Each input is a device and a conversation with it:
+ *
+ *     0      own address; 255 stands for 265
+ *     1      bits 2..0: the length that is wrong (see enum length); bit 6: each work record begins with the first four bytes of the first frame;
+ *            bit 7: the offsets of the table are set right, so that well-formed tables are found
+ *     2      the wrong length's difference, signed
+ *     3      r, records of the table (mod 32)
+ *     4, 5   the store's length (mod 32,784), low byte first
+ *     6..    8 r bytes of table, then frames of ten bytes; a rest is a record of that length
+ *
+ * Each frame goes to the core and to the reference. Results and all buffers must be equal afterwards; each buffer ends where an unreadable page begins and
+ * stands behind guard bytes, so that a byte read or written outside one shows.
+ */
+#include <stdio.h>
+#include <stdlib.h>
+#include <string.h>
+#include <sys/mman.h>
+#include "reference.h"
+#include "sds.h"
+
+enum { FRONT = 6, GUARD = 64, GUARD_BYTE = 0x5A, ROOM = 1 << 16 };
+enum length { RIGHT, RECORD, TABLE, STORE, WORK, OUT, MESSAGE, LENGTHS };
+enum knob { WRONG_LENGTH = 7, WORK_GARBAGE = 0x40, RIGHT_OFFSETS = 0x80 };
+enum side { CORE, REFERENCE, SIDES };
+
+static uint8_t *ends[SIDES][LENGTHS]; /* where each buffer of each side ends */
+static size_t lengths[LENGTHS];
+
+static uint8_t *room_before_a_closed_page(void)
+{
+    uint8_t *room = mmap(0, 2 * ROOM, PROT_READ | PROT_WRITE, MAP_PRIVATE | MAP_ANONYMOUS, -1, 0);
+    if (room == MAP_FAILED || mprotect(room + ROOM, ROOM, PROT_NONE)) {
+        perror("fuzz");
+        exit(1);
+    }
+    return room + ROOM;
+}
+
+static uint8_t *lent(enum side side, enum length buffer)
+{
+    return ends[side][buffer] - lengths[buffer];
+}
+
+/* the same bytes for both sides, guard bytes in front */
+static void lend(enum length buffer, size_t length, const uint8_t *bytes, size_t count)
+{
+    lengths[buffer] = length;
+    for (enum side side = CORE; side < SIDES; side++) {
+        uint8_t *start = lent(side, buffer);
+        memset(start - GUARD, GUARD_BYTE, GUARD);
+        memset(start, 0, length);
+        memcpy(start, bytes, count < length ? count : length);
+    }
+}
+
+static void must_be(int holds, const char *what)
+{
+    if (holds)
+        return;
+    fprintf(stderr, "fuzz: %s\n", what);
+    abort();
+}
+
+static void same_everywhere(void)
+{
+    static const char *const names[LENGTHS] = {"", "record", "table", "store", "work area", "output", "message"};
+    for (enum length buffer = RECORD; buffer <= MESSAGE; buffer++)
+        must_be(!memcmp(lent(CORE, buffer) - GUARD, lent(REFERENCE, buffer) - GUARD, GUARD + lengths[buffer]), names[buffer]);
+    for (enum length buffer = RECORD; buffer <= MESSAGE; buffer++)
+        for (int i = 1; i <= GUARD; i++)
+            must_be(lent(CORE, buffer)[-i] == GUARD_BYTE, "a guard byte");
+}
+
+static void step_both(uint32_t own)
+{
+    const size_t *n = lengths;
+    uint32_t ours = sds_step(lent(CORE, RECORD), n[RECORD], own, lent(CORE, TABLE), n[TABLE], lent(CORE, STORE), n[STORE], lent(CORE, WORK), n[WORK],
+                             lent(CORE, OUT), n[OUT]);
+    uint32_t theirs = ref_step(lent(REFERENCE, RECORD), n[RECORD], own, lent(REFERENCE, TABLE), n[TABLE], lent(REFERENCE, STORE), n[STORE],
+                               lent(REFERENCE, WORK), n[WORK], lent(REFERENCE, OUT), n[OUT]);
+    must_be(ours == theirs, "the reply of sds_step");
+    same_everywhere();
+}
+
+/* the record read into the message and written back; the record's first bytes are tried as a message too */
+static void codec_both(void)
+{
+    const size_t *n = lengths;
+    must_be(sds_read(lent(CORE, RECORD), n[RECORD], lent(CORE, MESSAGE), n[MESSAGE]) ==
+            ref_read(lent(REFERENCE, RECORD), n[RECORD], lent(REFERENCE, MESSAGE), n[MESSAGE]), "the result of sds_read");
+    same_everywhere();
+    must_be(sds_write(lent(CORE, MESSAGE), n[MESSAGE], lent(CORE, RECORD), n[RECORD]) ==
+            ref_write(lent(REFERENCE, MESSAGE), n[MESSAGE], lent(REFERENCE, RECORD), n[RECORD]), "the result of sds_write");
+    same_everywhere();
+    must_be(sds_write(lent(CORE, OUT), SDS_MESSAGE, lent(CORE, RECORD), n[RECORD]) ==
+            ref_write(lent(REFERENCE, OUT), SDS_MESSAGE, lent(REFERENCE, RECORD), n[RECORD]), "the result of sds_write of any bytes");
+    same_everywhere();
+}
+
+/* offsets that follow one another, so that only the rest of a table is for the fuzzer to find */
+static void set_offsets(uint8_t *table, size_t length)
+{
+    for (size_t at = 0, end = 0; at + 8 <= length; end += table[at + 3], at += 8) {
+        table[at + 4] = (uint8_t)end;
+        table[at + 5] = (uint8_t)(end >> 8);
+    }
+}
+
+static size_t length_of(enum length buffer, size_t right, const uint8_t *front)
+{
+    size_t wrong = right + (size_t)(int8_t)front[2];
+    return (front[1] & WRONG_LENGTH) == buffer && wrong < ROOM / 2 ? wrong : right;
+}
+
+static void converse(uint32_t own, const uint8_t *front, const uint8_t *frames, size_t size)
+{
+    for (size_t at = 0; at < size; at += SDS_RECORD) {
+        size_t rest = size - at, right = rest < SDS_RECORD ? rest : SDS_RECORD;
+        lend(RECORD, length_of(RECORD, right, front), frames + at, right);
+        step_both(own);
+        codec_both();
+    }
+}
+
+int LLVMFuzzerInitialize(int *argc, char ***argv)
+{
+    (void)argc, (void)argv;
+    for (enum side side = CORE; side < SIDES; side++)
+        for (enum length buffer = RECORD; buffer <= MESSAGE; buffer++)
+            ends[side][buffer] = room_before_a_closed_page();
+    return 0;
+}
+
+static void start_work_records(const uint8_t *bytes, size_t count)
+{
+    for (enum side side = CORE; side < SIDES; side++)
+        for (size_t at = 0; at + count <= lengths[WORK]; at += 260)
+            memcpy(lent(side, WORK) + at, bytes, count);
+}
+
+static void lend_all(const uint8_t *front, const uint8_t *table, size_t table_size, const uint8_t *frames, size_t size)
+{
+    size_t store_size = (front[4] | (size_t)front[5] << 8) % (32768 + 16);
+    lend(TABLE, length_of(TABLE, table_size, front), table, table_size);
+    for (enum side side = CORE; side < SIDES && front[1] & RIGHT_OFFSETS; side++)
+        set_offsets(lent(side, TABLE), lengths[TABLE]);
+    lend(STORE, length_of(STORE, store_size, front), front, 0);
+    lend(WORK, length_of(WORK, SDS_WORK, front), front, 0);
+    if (front[1] & WORK_GARBAGE)
+        start_work_records(frames, size < 4 ? size : 4);
+    lend(OUT, length_of(OUT, SDS_OUT, front), frames, size < SDS_MESSAGE ? size : SDS_MESSAGE);
+    lend(MESSAGE, length_of(MESSAGE, SDS_MESSAGE, front), front, 0);
+}
+
+int LLVMFuzzerTestOneInput(const uint8_t *input, size_t size)
+{
+    if (size < FRONT || size - FRONT < 8u * (input[3] % 32))
+        return 0;
+    size_t table_size = 8u * (input[3] % 32), at = FRONT + table_size;
+    lend_all(input, input + FRONT, table_size, input + at, size - at);
+    must_be(sds_table_check(lent(CORE, TABLE), lengths[TABLE], lengths[STORE]) == ref_table_check(lent(CORE, TABLE), lengths[TABLE], lengths[STORE]),
+            "the result of sds_table_check");
+    uint32_t descriptor = input[4] | (uint32_t)input[5] << 8;
+    must_be(sds_descriptor_size(descriptor) == ref_descriptor_size(descriptor), "the result of sds_descriptor_size");
+    converse(input[0] == 255 ? 265 : input[0], input, input + at, size - at);
+    return 0;
+}

@@ -1,0 +1,173 @@
+/*
+ * differ FRAMES [SEED]: plays the random stream into the archive and into the reference, and compares each result and every byte of every buffer. Ends when
+ * that many frames have gone through sds_step. Counts what came up, and fails where something that can come up never did.
+ */
+#include <stdio.h>
+#include <stdlib.h>
+#include <string.h>
+#include <time.h>
+#include "reference.h"
+#include "stream.h"
+
+static const struct entry_points core = {sds_step, sds_read, sds_write, sds_descriptor_size, sds_table_check};
+static const struct entry_points reference = {ref_step, ref_read, ref_write, ref_descriptor_size, ref_table_check};
+
+static struct stream stream;
+static struct areas before, theirs;
+
+/* ---- what came up */
+
+/* a row of counts, with the names of its places; a name of 0 is something that cannot come up */
+struct tally {
+    const char *title;
+    const char *const *names;
+    unsigned places;
+    unsigned long long *counts;
+};
+
+#define TALLY(title, ...) {title, (const char *const[]){__VA_ARGS__}, sizeof((const char *const[]){__VA_ARGS__}) / sizeof(char *), \
+                           (unsigned long long[sizeof((const char *const[]){__VA_ARGS__}) / sizeof(char *)]){0}}
+
+enum { BY_ENTRY, BY_NUMBER, BY_SERVED, BY_FRAME, BY_DISTURBANCE, BY_READ, BY_WRITTEN, BY_TABLE, BY_SIZE, TALLIES };
+enum served { READ_PLAIN, READ_IN_FRAGMENTS, WRITTEN_WHOLE, KEPT, COMPLETED, COMPLETED_ALONE };
+
+static struct tally tallies[TALLIES] = {
+    [BY_ENTRY] = TALLY("calls", "step", "read", "write", "table_check", "descriptor_size"),
+    /* 13 cannot: a number that passes check 12 is at most 63 */
+    [BY_NUMBER] = TALLY("step", "0", "1", "2", "3", "4", "5", "6", "7", "8", "9", "10", "11", "12", 0, "14"),
+    [BY_SERVED] = TALLY("served", "Read, one frame", "Read, fragments", "whole Write", "fragment kept", "last of several", "only fragment"),
+    [BY_FRAME] = TALLY("frames", "next fragment", "first fragment", "whole Write", "Read", "stranger", "noise"),
+    [BY_DISTURBANCE] = TALLY("disturbed", "not", "bit", "byte", "DLC", "number", "total", "table byte", "work byte", "record length", "table length",
+                             "store length", "work length", "output length", "own address", "message byte", "message length"),
+    [BY_READ] = TALLY("read", "short", "whole", "fragment", "refused 1", "refused 3", "refused 5", "refused 8"),
+    [BY_WRITTEN] = TALLY("write", "short", "whole", "fragment", "refused 1", "refused 3"),
+    [BY_TABLE] = TALLY("table_check", "0", "1", "2"),
+    [BY_SIZE] = TALLY("descriptor_size", "refused", "1", "2", "4", "other"),
+};
+
+static void count(unsigned tally, unsigned place)
+{
+    tallies[tally].counts[place]++;
+}
+
+static enum served served_as(const uint8_t *record, uint32_t frames)
+{
+    enum { READ_SERVICE = 5, FLAG = 0x20 };
+    if (record[1] >> 5 == READ_SERVICE)
+        return frames > 1 ? READ_IN_FRAGMENTS : READ_PLAIN;
+    if (!(record[2] & FLAG))
+        return WRITTEN_WHOLE;
+    return frames == 0 ? KEPT : record[4] ? COMPLETED : COMPLETED_ALONE;
+}
+
+static void count_step(uint32_t reply)
+{
+    count(BY_NUMBER, SDS_NUMBER(reply));
+    count(BY_FRAME, stream.call.frame);
+    count(BY_DISTURBANCE, stream.call.disturbance);
+    if (SDS_NUMBER(reply) == 0)
+        count(BY_SERVED, served_as(before.record, SDS_COUNT(reply)));
+}
+
+static void count_call(uint32_t result)
+{
+    const uint8_t places_of_refusals[9] = {0, 3, 0, 4, 0, 5, 0, 0, 6};
+    count(BY_ENTRY, stream.call.entry);
+    switch (stream.call.entry) {
+    case STEP: count_step(result); break;
+    case READ: count(BY_READ, result ? places_of_refusals[result] : theirs.message[0]); break;
+    case WRITE: count(BY_WRITTEN, result ? places_of_refusals[result] : before.message[0]); break;
+    case TABLE_CHECK: count(BY_TABLE, result); break;
+    default: count(BY_SIZE, result < 3 ? result : result == 4 ? 3 : 4); break;
+    }
+}
+
+/* prints all counts; gives whether each kind came up */
+static int all_came_up(void)
+{
+    int all = 1;
+    for (unsigned t = 0; t < TALLIES; t++) {
+        printf("%s:", tallies[t].title);
+        for (unsigned place = 0; place < tallies[t].places; place++) {
+            if (!tallies[t].names[place])
+                continue;
+            printf("%s %s %llu", place ? "," : "", tallies[t].names[place], tallies[t].counts[place]);
+            all &= tallies[t].counts[place] != 0;
+        }
+        printf("\n");
+    }
+    return all;
+}
+
+/* ---- the comparison */
+
+static void print_bytes(const char *name, const uint8_t *bytes, size_t length)
+{
+    printf("%s", name);
+    for (size_t i = 0; i < length; i++)
+        printf(" %02X", bytes[i]);
+    printf("\n");
+}
+
+static void print_difference(uint32_t ours, uint32_t reference_says)
+{
+    const struct call *c = &stream.call;
+    const uint8_t *a = (const uint8_t *)&stream.areas, *b = (const uint8_t *)&theirs;
+    printf("DIFFERS at entry point %d: archive %u, reference %u\n", c->entry, ours, reference_says);
+    printf("own %u, descriptor %u, lengths: record %u, message %u, table %u, store %u, work %u, out %u\n", c->own, c->descriptor, c->record_len, c->message_len,
+           c->table_len, c->store_len, c->work_len, c->out_len);
+    print_bytes("record", before.record, sizeof before.record);
+    print_bytes("message", before.message, sizeof before.message);
+    print_bytes("table", before.table, c->table_len < 256 ? c->table_len : 256);
+    for (size_t i = 0, shown = 0; i < sizeof theirs && shown < 16; i++)
+        if (a[i] != b[i])
+            shown++, printf("byte %zu of the areas: archive %02X, reference %02X\n", i, a[i], b[i]);
+}
+
+static int same_call(void)
+{
+    stream_next(&stream);
+    before = stream.areas;
+    theirs = stream.areas;
+    uint32_t expected = stream_call_of(&reference, &stream.call, &theirs), result = stream_call_of(&core, &stream.call, &stream.areas);
+    if (result != expected || memcmp(&stream.areas, &theirs, sizeof theirs)) {
+        print_difference(result, expected);
+        return 0;
+    }
+    count_call(result);
+    return 1;
+}
+
+/* every descriptor, and as many numbers beyond */
+static int same_sizes(void)
+{
+    for (uint32_t descriptor = 0; descriptor < 0x20000; descriptor++)
+        if (sds_descriptor_size(descriptor) != ref_descriptor_size(descriptor)) {
+            printf("DIFFERS: size of descriptor %05X: archive %u, reference %u\n", descriptor, sds_descriptor_size(descriptor), ref_descriptor_size(descriptor));
+            return 0;
+        }
+    return 1;
+}
+
+int main(int argc, char **argv)
+{
+    if (argc < 2 || argc > 3) {
+        fprintf(stderr, "usage: differ FRAMES [SEED]\n");
+        return 2;
+    }
+    unsigned long long frames = strtoull(argv[1], 0, 10), seed = argc == 3 ? strtoull(argv[2], 0, 10) : (unsigned long long)time(0);
+    printf("differ %llu %llu\n", frames, seed);
+    fflush(stdout);
+    stream_start(&stream, seed);
+    while (tallies[BY_ENTRY].counts[STEP] < frames)
+        if (!same_call())
+            return 1;
+    if (!same_sizes())
+        return 1;
+    if (!all_came_up()) {
+        printf("a kind with 0 above never came up\n");
+        return 1;
+    }
+    printf("differ: %llu frames, no difference\n", frames);
+    return 0;
+}

@@ -1,0 +1,356 @@
+#include <string.h>
+#include "stream.h"
+
+/* ---- chance: sfc32, which needs neither 64 bits nor a division */
+
+static uint32_t draw(struct stream *s)
+{
+    uint32_t *r = s->random, sum = r[0] + r[1] + r[3]++;
+    r[0] = r[1] ^ r[1] >> 9;
+    r[1] = r[2] + (r[2] << 3);
+    r[2] = (r[2] << 21 | r[2] >> 11) + sum;
+    return sum;
+}
+
+/* 0 to n-1, for n up to 65,536 */
+static uint32_t below(struct stream *s, uint32_t n)
+{
+    return (draw(s) >> 16) * n >> 16;
+}
+
+static int one_in(struct stream *s, uint32_t n)
+{
+    return below(s, n) == 0;
+}
+
+static void fill(struct stream *s, uint8_t *bytes, uint32_t count)
+{
+    for (uint32_t i = 0; i < count; i++)
+        bytes[i] = (uint8_t)(draw(s) >> 13);
+}
+
+/* ---- a scene: one device */
+
+/* a descriptor of the component model (001, figure 11), and the bytes that it describes */
+static uint32_t any_descriptor(struct stream *s, uint32_t *length)
+{
+    enum { SIGNED = 0, BOOLEAN = 1, UNSIGNED = 4, EXTENDED_CHARACTER = 5, CHARACTER = 7 };
+    uint32_t count = below(s, 32), flags = below(s, 4) << 14, size = below(s, 4);
+    switch (below(s, 4)) {
+    case 0:
+        *length = count + 1;
+        return flags | CHARACTER << 8 | size << 5 | count;
+    case 1:
+        *length = 2 * (count + 1);
+        return flags | EXTENDED_CHARACTER << 8 | size << 5 | count;
+    case 2:
+        size = 1 + below(s, 3);
+        *length = 1u << (size - 1);
+        return flags | (uint32_t)(one_in(s, 2) ? SIGNED : UNSIGNED) << 8 | size << 5 | count;
+    default:
+        *length = count < 8 ? 1 : count < 16 ? 2 : 4;
+        return flags | BOOLEAN << 8 | count;
+    }
+}
+
+/* one record of a table, at this offset; gives the attribute's length */
+static uint32_t put_record(struct stream *s, uint8_t *record, uint32_t object, uint32_t id, uint32_t offset)
+{
+    static const uint8_t usual[8] = {1, 2, 4, 6, 7, 8, 32, 255};
+    uint32_t length = one_in(s, 2) ? usual[below(s, 8)] : 1 + below(s, 255);
+    uint32_t access = one_in(s, 4) ? below(s, 4) : 3, descriptor = 0;
+    if (one_in(s, 2)) {
+        descriptor = any_descriptor(s, &length);
+        access |= 4;
+    }
+    const uint8_t bytes[8] = {(uint8_t)object, (uint8_t)id, (uint8_t)access, (uint8_t)length, (uint8_t)offset, (uint8_t)(offset >> 8),
+                              (uint8_t)descriptor, (uint8_t)(descriptor >> 8)};
+    memcpy(record, bytes, 8);
+    return length;
+}
+
+static uint32_t any_count(struct stream *s)
+{
+    switch (below(s, 16)) {
+    case 0: return 0;
+    case 1: return STREAM_RECORDS;
+    case 2: return below(s, STREAM_RECORDS);
+    default: return 1 + below(s, 12);
+    }
+}
+
+/* a well-formed table; gives the length of the store that it needs */
+static uint32_t put_table(struct stream *s)
+{
+    uint32_t count = any_count(s), object = below(s, 4), id = below(s, 32), end = 0, i = 0;
+    uint32_t stay = count > 32 ? 64 : 2; /* so that many records get a place among 32 objects */
+    for (; i < count && object < 32; i++) {
+        uint32_t length = put_record(s, s->areas.table + 8 * i, object, id, end);
+        if (end + length > STREAM_STORE)
+            break;
+        end += length;
+        id += 1 + below(s, 4);
+        if (one_in(s, stay) || id > 255) {
+            object += 1 + below(s, 2);
+            id = below(s, 32);
+        }
+    }
+    s->device.table_len = 8 * i;
+    return end;
+}
+
+/* garbage, in which many a record waits for some fragment */
+static void waiting_garbage(struct stream *s)
+{
+    for (uint32_t object = 0; object < 32; object++) {
+        uint8_t *record = s->areas.work + 260 * object;
+        record[0] = (uint8_t)below(s, 3);
+        record[3] = (uint8_t)below(s, 10);
+    }
+}
+
+static void new_scene(struct stream *s)
+{
+    static const uint8_t roughnesses[4] = {0, 4, 16, 128};
+    fill(s, (uint8_t *)&s->areas, sizeof s->areas);
+    memset(s->senders, 0, sizeof s->senders);
+    uint32_t end = put_table(s), room = STREAM_STORE - end;
+    s->device.store_len = end + (one_in(s, 3) ? below(s, room + 1) : 0);
+    s->device.own = below(s, 126);
+    s->device.record_len = SDS_RECORD;
+    s->device.message_len = SDS_MESSAGE;
+    s->device.work_len = SDS_WORK;
+    s->device.out_len = SDS_OUT + below(s, STREAM_SLACK);
+    if (one_in(s, 3))
+        waiting_garbage(s);
+    else
+        memset(s->areas.work, 0, SDS_WORK);
+    s->roughness = roughnesses[below(s, 4)];
+    s->left = 16 + below(s, 512);
+    s->damaged = 0;
+    s->undamaged = s->areas.table[0];
+}
+
+/* ---- a frame. What a form leaves unused stays the garbage that it was. */
+
+enum { WRITES = 4, READS = 5, FRAGMENT = 0x20 };
+
+static void put_header(struct stream *s, uint32_t service, uint32_t dlc, uint32_t flag, uint32_t object, uint32_t id)
+{
+    fill(s, s->areas.record, SDS_RECORD);
+    s->areas.record[0] = (uint8_t)s->device.own;
+    s->areas.record[1] = (uint8_t)(service << 5 | dlc);
+    s->areas.record[2] = (uint8_t)(flag | object);
+    s->areas.record[3] = (uint8_t)id;
+}
+
+/* a request of an attribute of the table, for object and ID; a table without records has none */
+static const uint8_t *any_attribute(struct stream *s)
+{
+    static const uint8_t nobody[8] = {3, 10, 3, 32};
+    uint32_t count = s->device.table_len / 8;
+    return count ? s->areas.table + 8 * below(s, count) : nobody;
+}
+
+/* the next fragment of the message under way to an object, begun anew where there is none or where it is asked for */
+static void put_fragment(struct stream *s, int anew)
+{
+    const uint8_t *attribute = any_attribute(s);
+    struct sender *sender = &s->senders[attribute[0] & 31];
+    if (s->device.table_len && (anew || !sender->busy))
+        *sender = (struct sender){(uint16_t)((attribute - s->areas.table) / 8), 0, 1};
+    if (s->device.table_len)
+        attribute = s->areas.table + 8 * sender->place;
+    uint32_t total = attribute[3], rest = total - 4u * sender->next, count = rest < 4 ? rest : 4;
+    put_header(s, WRITES, 4 + count, FRAGMENT, attribute[0], attribute[1]);
+    s->areas.record[4] = sender->next;
+    s->areas.record[5] = (uint8_t)total;
+    sender->next++;
+    sender->busy = rest > 4;
+    if (!sender->busy)
+        sender->next = 0;
+}
+
+static void put_whole_write(struct stream *s)
+{
+    const uint8_t *attribute = any_attribute(s);
+    for (int tries = 0; attribute[3] > 6 && tries < 8; tries++)
+        attribute = any_attribute(s);
+    uint32_t length = one_in(s, 8) ? below(s, 7) : attribute[3] < 6 ? attribute[3] : 6;
+    put_header(s, WRITES, 2 + length, 0, attribute[0], attribute[1]);
+}
+
+static void put_frame(struct stream *s)
+{
+    static const uint8_t chances[16] = {NEXT_FRAGMENT, NEXT_FRAGMENT, NEXT_FRAGMENT, NEXT_FRAGMENT, NEXT_FRAGMENT, NEXT_FRAGMENT, NEXT_FRAGMENT,
+                                        NEXT_FRAGMENT, NEXT_FRAGMENT, FIRST_FRAGMENT, WHOLE_WRITE, WHOLE_WRITE, PLAIN_READ, PLAIN_READ, STRANGER, NOISE};
+    s->call.frame = chances[below(s, 16)];
+    if (s->call.frame == FIRST_FRAGMENT && !one_in(s, 4))
+        s->call.frame = NEXT_FRAGMENT;
+    switch (s->call.frame) {
+    case NEXT_FRAGMENT:
+    case FIRST_FRAGMENT:
+        put_fragment(s, s->call.frame == FIRST_FRAGMENT);
+        break;
+    case WHOLE_WRITE:
+        put_whole_write(s);
+        break;
+    case PLAIN_READ: {
+        const uint8_t *attribute = any_attribute(s);
+        put_header(s, READS, 2, 0, attribute[0], attribute[1]);
+        break;
+    }
+    case STRANGER:
+        put_header(s, below(s, 8), below(s, 9), one_in(s, 2) ? FRAGMENT : 0, below(s, 32), below(s, 256));
+        break;
+    default:
+        fill(s, s->areas.record, SDS_RECORD);
+        break;
+    }
+}
+
+/* ---- a message for sds_write: in range and tidy, before it is disturbed */
+
+static void put_message(struct stream *s)
+{
+    uint8_t *m = s->areas.message;
+    memset(m, 0, SDS_MESSAGE);
+    m[0] = (uint8_t)below(s, 3);
+    m[1] = (uint8_t)below(s, 2);
+    m[2] = (uint8_t)below(s, 126);
+    m[3] = (uint8_t)below(s, 8);
+    if (m[0] == 0)
+        return;
+    m[3] |= 4;
+    m[4] = (uint8_t)below(s, 4);
+    m[5] = (uint8_t)below(s, 32);
+    m[6] = (uint8_t)below(s, 256);
+    if (m[0] == 2)
+        fill(s, m + 7, 2);
+    m[9] = (uint8_t)below(s, m[0] == 2 ? 5 : 7);
+    fill(s, m + 10, m[9]);
+}
+
+/* ---- one disturbance */
+
+/* a length other than the right one, up to the slack beyond the most that the buffer is meant for */
+static uint32_t other_length(struct stream *s, uint32_t right, uint32_t most)
+{
+    uint32_t length = one_in(s, 2) ? below(s, most + STREAM_SLACK + 1) : most + below(s, STREAM_SLACK + 1);
+    return length == right ? right - 1 : length;
+}
+
+static uint32_t other_address(struct stream *s)
+{
+    switch (below(s, 4)) {
+    case 0: return 126 + below(s, 2);
+    case 1: return s->device.own + 256;
+    case 2: return draw(s);
+    default: return below(s, 126);
+    }
+}
+
+static void disturb_bytes(struct stream *s)
+{
+    struct areas *a = &s->areas;
+    uint32_t count = s->device.table_len;
+    switch (s->call.disturbance) {
+    case ONE_BIT: a->record[below(s, 4)] ^= (uint8_t)(1u << below(s, 8)); break;
+    case ONE_BYTE: a->record[below(s, SDS_RECORD)] = (uint8_t)draw(s); break;
+    case OTHER_DLC: a->record[1] = (uint8_t)((a->record[1] & 0xE0) | below(s, 16)); break;
+    case OTHER_NUMBER: a->record[4] = (uint8_t)(a->record[4] + 3 - below(s, 6)); break;
+    case OTHER_TOTAL: a->record[5] = (uint8_t)(a->record[5] + 3 - below(s, 6)); break;
+    case MESSAGE_BYTE: a->message[below(s, SDS_MESSAGE)] = (uint8_t)(one_in(s, 2) ? draw(s) : below(s, 9)); break;
+    case WORK_BYTE: a->work[260 * (a->record[2] & 31u) + below(s, 4)] = (uint8_t)below(s, 9); break;
+    case TABLE_BYTE:
+        s->damaged = count ? below(s, count) : 0;
+        s->undamaged = a->table[s->damaged];
+        a->table[s->damaged] = (uint8_t)(one_in(s, 2) ? draw(s) : s->undamaged ^ 1u << below(s, 8));
+        break;
+    default: break;
+    }
+}
+
+static void disturb(struct stream *s)
+{
+    struct call *c = &s->call;
+    c->disturbance = 1 + below(s, DISTURBANCES - 1);
+    switch (c->disturbance) {
+    case RECORD_LENGTH: c->record_len = other_length(s, SDS_RECORD, SDS_RECORD); break;
+    case MESSAGE_LENGTH: c->message_len = other_length(s, SDS_MESSAGE, SDS_MESSAGE); break;
+    case TABLE_LENGTH: c->table_len = other_length(s, c->table_len, one_in(s, 2) ? 8 * STREAM_RECORDS : c->table_len); break;
+    case STORE_LENGTH: c->store_len = other_length(s, c->store_len, one_in(s, 2) ? STREAM_STORE : c->store_len); break;
+    case WORK_LENGTH: c->work_len = other_length(s, SDS_WORK, SDS_WORK); break;
+    case OUT_LENGTH: c->out_len = below(s, SDS_OUT + STREAM_SLACK + 1); break;
+    case OWN_ADDRESS: c->own = other_address(s); break;
+    default: disturb_bytes(s); break;
+    }
+}
+
+/* ---- the stream */
+
+void stream_start(struct stream *s, uint64_t seed)
+{
+    memset(s, 0, sizeof *s);
+    s->random[0] = (uint32_t)seed;
+    s->random[1] = (uint32_t)(seed >> 32);
+    s->random[3] = 1;
+    for (int i = 0; i < 16; i++)
+        draw(s);
+}
+
+void stream_next(struct stream *s)
+{
+    s->areas.table[s->damaged] = s->undamaged;
+    if (s->left == 0)
+        new_scene(s);
+    s->left--;
+    s->call = s->device;
+    s->call.entry = one_in(s, 8) ? 1 + below(s, ENTRIES - 1) : STEP;
+    s->call.disturbance = NONE;
+    s->call.descriptor = one_in(s, 16) ? draw(s) : below(s, 65536) & 0xCF7F;
+    if (s->call.entry == WRITE)
+        put_message(s);
+    else
+        put_frame(s);
+    if (below(s, 256) < s->roughness || (s->call.entry != STEP && one_in(s, 2)))
+        disturb(s);
+}
+
+uint32_t stream_call_of(const struct entry_points *points, const struct call *c, struct areas *a)
+{
+    switch (c->entry) {
+    case STEP:
+        return points->step(a->record, c->record_len, c->own, a->table, c->table_len, a->store, c->store_len, a->work, c->work_len, a->out, c->out_len);
+    case READ: return points->read(a->record, c->record_len, a->message, c->message_len);
+    case WRITE: return points->write(a->message, c->message_len, a->record, c->record_len);
+    case TABLE_CHECK: return points->table_check(a->table, c->table_len, c->store_len);
+    default: return points->descriptor_size(c->descriptor);
+    }
+}
+
+uint32_t stream_call(struct stream *s)
+{
+    static const struct entry_points core = {sds_step, sds_read, sds_write, sds_descriptor_size, sds_table_check};
+    return stream_call_of(&core, &s->call, &s->areas);
+}
+
+/* FNV-1a */
+static uint32_t mix(uint32_t hash, const void *bytes, uint32_t count)
+{
+    const uint8_t *byte = bytes;
+    for (uint32_t i = 0; i < count; i++)
+        hash = (hash ^ byte[i]) * 16777619u;
+    return hash;
+}
+
+uint32_t stream_hash(const struct stream *s, uint32_t hash, uint32_t result)
+{
+    const struct areas *a = &s->areas;
+    const uint8_t bytes[4] = {(uint8_t)result, (uint8_t)(result >> 8), (uint8_t)(result >> 16), (uint8_t)(result >> 24)};
+    hash = mix(hash, bytes, 4);
+    hash = mix(hash, a->record, sizeof a->record);
+    hash = mix(hash, a->message, sizeof a->message);
+    hash = mix(hash, a->out, 20);
+    return s->left % 32 ? hash : mix(hash, a, sizeof *a);
+}
