@@ -1,18 +1,20 @@
 /*
- * stack.c: CALLS calls of the random stream on a Cortex-M, before each of which the free stack is painted. Prints the most bytes that a call of
- * sds_step took of it. It is linked with --wrap=sds_step.
+ * stack.c: CALLS calls of the random stream on a Cortex-M, before each of which the free stack is painted. Prints the most bytes that a
+ * call of sds_step took of it. It is linked with --wrap=sds_step.
  */
 #include "host.h"
+#include "start.h"
 #include "stream.h"
 
-enum { PAINT = 0x5AFE57AC };
-
-extern uint32_t bss_end[]; /* mcu.ld: where the stack ends */
+enum { PAINT = 0x5AFE57AC, WORDS = 512 /* painted: more than a call takes, and less than the room for the stack */ };
 
 static struct stream stream;
 
-/* the stack pointer as sds_step found it, or 0 where it was not called */
+extern uint32_t bss_end[]; /* mcu.ld: the stack must stay above */
+
+/* the stack pointer as sds_step found it, or 0 where it was not called; and where the paint begins */
 uint32_t *found;
+static uint32_t *bottom;
 
 uint32_t __wrap_sds_step(void);
 
@@ -34,15 +36,18 @@ __attribute__((noinline)) static void paint(void)
 {
     uint32_t *top;
     __asm__ volatile("mov %0, sp" : "=r"(top));
-    for (volatile uint32_t *word = bss_end; word < top; word++)
+    bottom = top - WORDS;
+    if (bottom < bss_end)
+        halt();
+    for (volatile uint32_t *word = bottom; word < top; word++)
         *word = PAINT;
 }
 
-/* the bytes below what sds_step found that are painted over; the last word before the data is never reached by a stack that fits */
-__attribute__((noinline)) static uint32_t depth(void)
+/* the bytes below what sds_step found that are painted over */
+static uint32_t depth(void)
 {
-    const volatile uint32_t *word = bss_end;
-    while (word < found && *word == PAINT)
+    const volatile uint32_t *word = bottom;
+    while (*word == PAINT)
         word++;
     return (uint32_t)(found - word) * sizeof *word;
 }

@@ -1,7 +1,7 @@
 #include <string.h>
 #include "stream.h"
 
-/* ---- chance: sfc32, which needs neither 64 bits nor a division */
+/* ---- chance: sfc32, which needs neither 64 bits nor a division. Never two draws in one expression: C leaves their order to the compiler. */
 
 static uint32_t draw(struct stream *s)
 {
@@ -180,6 +180,12 @@ static void put_whole_write(struct stream *s)
     put_header(s, WRITES, 2 + length, 0, attribute[0], attribute[1]);
 }
 
+static void put_stranger(struct stream *s)
+{
+    uint32_t service = below(s, 8), dlc = below(s, 9), flag = one_in(s, 2) ? FRAGMENT : 0, object = below(s, 32), id = below(s, 256);
+    put_header(s, service, dlc, flag, object, id);
+}
+
 static void put_frame(struct stream *s)
 {
     static const uint8_t chances[16] = {NEXT_FRAGMENT, NEXT_FRAGMENT, NEXT_FRAGMENT, NEXT_FRAGMENT, NEXT_FRAGMENT, NEXT_FRAGMENT, NEXT_FRAGMENT,
@@ -201,7 +207,7 @@ static void put_frame(struct stream *s)
         break;
     }
     case STRANGER:
-        put_header(s, below(s, 8), below(s, 9), one_in(s, 2) ? FRAGMENT : 0, below(s, 32), below(s, 256));
+        put_stranger(s);
         break;
     default:
         fill(s, s->areas.record, SDS_RECORD);
@@ -253,19 +259,19 @@ static uint32_t other_address(struct stream *s)
 static void disturb_bytes(struct stream *s)
 {
     struct areas *a = &s->areas;
-    uint32_t count = s->device.table_len;
+    uint32_t place = below(s, 16), bit = 1u << below(s, 8), any = draw(s) >> 13, few = below(s, 9), table_len = s->device.table_len;
     switch (s->call.disturbance) {
-    case ONE_BIT: a->record[below(s, 4)] ^= (uint8_t)(1u << below(s, 8)); break;
-    case ONE_BYTE: a->record[below(s, SDS_RECORD)] = (uint8_t)draw(s); break;
-    case OTHER_DLC: a->record[1] = (uint8_t)((a->record[1] & 0xE0) | below(s, 16)); break;
-    case OTHER_NUMBER: a->record[4] = (uint8_t)(a->record[4] + 3 - below(s, 6)); break;
-    case OTHER_TOTAL: a->record[5] = (uint8_t)(a->record[5] + 3 - below(s, 6)); break;
-    case MESSAGE_BYTE: a->message[below(s, SDS_MESSAGE)] = (uint8_t)(one_in(s, 2) ? draw(s) : below(s, 9)); break;
-    case WORK_BYTE: a->work[260 * (a->record[2] & 31u) + below(s, 4)] = (uint8_t)below(s, 9); break;
+    case ONE_BIT: a->record[place % 4] ^= (uint8_t)bit; break;
+    case ONE_BYTE: a->record[place % SDS_RECORD] = (uint8_t)any; break;
+    case OTHER_DLC: a->record[1] = (uint8_t)((a->record[1] & 0xE0) | place); break;
+    case OTHER_NUMBER: a->record[4] = (uint8_t)(a->record[4] + 4 - few); break;
+    case OTHER_TOTAL: a->record[5] = (uint8_t)(a->record[5] + 4 - few); break;
+    case MESSAGE_BYTE: a->message[place] = (uint8_t)(one_in(s, 2) ? any : few); break;
+    case WORK_BYTE: a->work[260 * (a->record[2] & 31u) + place % 4] = (uint8_t)few; break;
     case TABLE_BYTE:
-        s->damaged = count ? below(s, count) : 0;
+        s->damaged = table_len ? below(s, table_len) : 0;
         s->undamaged = a->table[s->damaged];
-        a->table[s->damaged] = (uint8_t)(one_in(s, 2) ? draw(s) : s->undamaged ^ 1u << below(s, 8));
+        a->table[s->damaged] = (uint8_t)(one_in(s, 2) ? any : s->undamaged ^ bit);
         break;
     default: break;
     }

@@ -1,13 +1,13 @@
 /*
- * reference.c: the sample device on the archive for x86-64, with the files of the emulated boards in the working directory: `frames` in,
+ * sample.c: the sample device on the archive for x86-64, with the files of the emulated boards in the working directory: `frames` in,
  * `answers` out, `store` both.
  */
 #include <stdio.h>
 #include <stdlib.h>
 #include "sds.h"
 
-static const uint8_t table[] =
-    "\x02\x12\x05\x01\x00\x00\x00\x01" "\x02\x38\x07\x20\x01\x00\x3F\x07" "\x03\x0A\x03\x02\x21\x00\x00\x00" "\x03\x38\x07\x20\x23\x00\x3F\x07";
+static const uint8_t table[] = "\x02\x12\x05\x01\x00\x00\x00\x01" "\x02\x38\x07\x20\x01\x00\x3F\x07"
+                               "\x03\x0A\x03\x02\x21\x00\x00\x00" "\x03\x38\x07\x20\x23\x00\x3F\x07";
 
 static uint8_t store[67], work[SDS_WORK], out[SDS_OUT];
 
