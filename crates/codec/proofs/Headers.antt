@@ -1,18 +1,23 @@
 -- What is known of a header that no check refuses.
-use Prim.Native.Nat.{ℕ, _<_, _≤_}
-use mathlib.Core.Path.{_≡_, refl}
+use Prim.Native.Nat.{ℕ, _-_, _<_, _≤_}
+use mathlib.Core.Path.{_≡_, refl, ap, _∙_}
 use mathlib.Core.Bool.{Bool, true, false, cond, not, _&&_, _||_}
 use mathlib.Mathlib.Data.Bool.Basic.{or-eq-false-eq-eq-false-and-eq-false as neither}
 use native.Mathlib.Omega.{arith}
 use mathlib.Core.List.{List}
 use lib.Dec.{ltb, leb, eqb}
+use lib.ListN.{length, length-take, length-drop}
 use borrow.Author.Tests.{ltb-false, eqb-true, eqb-false, eq-eqb, ne-eqb, le-leb, le-ltb}
 use Rattle.laws.specs.Checks.{firstOf, holdsAt}
 use Rattle.laws.proofs.Tests.{split, not-both}
 use Rattle.laws.proofs.Checks.{none-holds}
 use Rattle.codec.specs.declared.Header.{Header}
+use Rattle.codec.specs.declared.Data.{Data}
 use Rattle.codec.specs.Fields.{headerOf}
-use Rattle.codec.specs.Reading.{headerChecks, barred, unserved, cramped}
+use Rattle.codec.specs.Reading.{headerChecks, readChecks, barred, unserved, cramped, dataOf, payloadOf}
+use Rattle.codec.specs.Writing.{tidy, bytesOf}
+use Rattle.codec.specs.Code.{payloadData}
+use Rattle.codec.proofs.Datas.{bytes-data, tidy-data}
 
 -- every field of a header is within its bits, whatever the record
 pub record Ranged (h : Header) : Type 0 where
@@ -77,3 +82,31 @@ long-passes h b l s f =
     split (eqb (h .flag) 1)
     (λ e. simp (b, one, two, four, e, le-ltb (h .dlc) 4 (f (eqb-true (h .flag) 1 e))))
     (λ e. simp (b, one, two, four, e))
+
+-- a record that is read is ten bytes long, and its header passes
+pub ten-of : (r : List ℕ) → firstOf (readChecks r) ≡ 0 → (length r ≡ 10) × (firstOf (headerChecks (headerOf r)) ≡ 0)
+ten-of r e =
+    split (eqb (length r) 10)
+    (λ t. (eqb-true (length r) 10 t, simp t at e))
+    (λ f. let z : _≡_ {A = ℕ} 1 0 = simp f at e in absurd (omega arith))
+
+-- what stands behind the ID of a long form that is read
+pub record Behind (r : List ℕ) (p : Data) : Type 0 where
+  pub long : Long (headerOf r)
+  pub len : p .len ≡ headerOf r .dlc - 2
+  pub tidied : tidy 6 p ≡ true
+  pub bytes : bytesOf p ≡ payloadOf r
+
+pub behind : (r : List ℕ) → firstOf (readChecks r) ≡ 0 → (headerOf r .dlc ≡ 0 → ⊥) → Behind r (payloadData r)
+unfolding payloadData dataOf
+behind r e z =
+    let t = ten-of r e in
+    let l = long-of (headerOf r) (t .1) z in
+    let n : length (payloadOf r) ≡ headerOf r .dlc - 2 = simp (length-take, length-drop) (omega (arith, t .0, l .most)) in
+    let q : payloadData r ≡ dataOf (payloadOf r) = simp (eq-eqb (length r) 10 (t .0), le-leb (headerOf r .dlc) 8 (l .most)) in
+    record {
+      long = l;
+      len = ap (λ (d : Data). d .len) q ∙ n;
+      tidied = rw q (tidy-data (payloadOf r) (omega (arith, n, l .most)) 6 (omega (arith, n, l .most)));
+      bytes = ap bytesOf q ∙ bytes-data (payloadOf r) (omega (arith, n, l .most));
+    }

@@ -1,6 +1,6 @@
 -- The ten bytes of a written record, one by one.
-use Prim.Native.Nat.{ℕ, suc, _+_, _-_, _*_, _≤_}
-use mathlib.Core.Path.{_≡_, refl, ap, _∙_}
+use Prim.Native.Nat.{ℕ, suc, _+_, _-_, _*_, _%_, _≤_}
+use mathlib.Core.Path.{_≡_, refl, sym, ap, _∙_}
 use mathlib.Core.Bool.{true}
 use mathlib.Core.List.{List, [], _∷_, _++_}
 use native.Mathlib.Omega.{arith}
@@ -11,8 +11,10 @@ use Rattle.codec.specs.declared.Subject.{Subject}
 use Rattle.codec.specs.declared.Data.{Data}
 use Rattle.codec.specs.declared.Message.the-variants.{Plain, Fragment}
 use Rattle.codec.specs.Reading.{dataOf}
-use Rattle.codec.specs.Writing.{placesOf, bytesOf, tidy, longFrame, frameOf, imageOf}
-use Rattle.codec.proofs.Datas.{tidy-most, tidy-more, tidy-data, bytes-data, bytes-length, bytes-padded}
+use Rattle.codec.specs.Writing.{placesOf, bytesOf, tidy, subjectFits, longFrame, frameOf, imageOf}
+use Rattle.codec.specs.Code.{prefixed, longPlaces}
+use Rattle.codec.proofs.Fits.{subject-fits}
+use Rattle.codec.proofs.Datas.{tidy-most, tidy-more, tidy-data, bytes-data, bytes-length, bytes-padded, byte-place}
 
 -- four bytes, then what stands behind the ID, padded
 pub long-padded : (u : Subject) (flag : ℕ) (p : List ℕ) → length p ≤ 6
@@ -48,3 +50,26 @@ plain-length u l h = rw (bytes-data l h) (long-length u 0 l h)
 pub fragment-length : (u : Subject) (n k : ℕ) (l : List ℕ) → length l ≤ 4 → length (imageOf (Fragment u n k (dataOf l))) ≡ 10
 unfolding imageOf frameOf
 fragment-length u n k l h = rw (bytes-data l (omega arith)) (long-length u 1 (n ∷ k ∷ l) (omega arith))
+
+-- what fits is not altered by the cut of its fields
+pub places-are-image : (u : Subject) (flag : ℕ) (d : Data) → subjectFits u ≡ true → flag ≤ 1 → tidy 6 d ≡ true
+    → longPlaces u flag d ≡ padded 10 (longFrame u flag (bytesOf d))
+unfolding longPlaces
+places-are-image u flag d f g t =
+    let r = subject-fits u .0 f in
+    let m = tidy-most 6 d t in
+    let dir : u .dir % 2 ≡ u .dir = omega arith in
+    let address : u .address % 128 ≡ u .address = omega arith in
+    let service : u .service % 8 ≡ u .service = omega arith in
+    let len : d .len % 8 ≡ d .len = omega arith in
+    let response : u .response % 4 ≡ u .response = omega arith in
+    let bit : flag % 2 ≡ flag = omega arith in
+    let object : u .object % 32 ≡ u .object = omega arith in
+    rw (dir, address, service, len, response, bit, object) (sym (long-bytes u flag d t))
+
+pub prefixed-is : (n k : ℕ) (d : Data) → tidy 4 d ≡ true → prefixed n k d ≡ dataOf (n ∷ k ∷ bytesOf d)
+unfolding prefixed dataOf
+prefixed-is n k d t =
+    let s = tidy-more 4 6 d (omega arith) t in
+    let e : suc (suc (length (bytesOf d))) ≡ d .len % 8 + 2 = omega (arith, bytes-length d s, tidy-most 4 d t) in
+    simp (e, byte-place d s 0, byte-place d s 1, byte-place d s 2, byte-place d s 3)

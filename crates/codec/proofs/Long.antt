@@ -19,10 +19,11 @@ use Rattle.codec.specs.declared.Answer.the-variants.{Got, Refused}
 use Rattle.codec.specs.declared.Message.{Message}
 use Rattle.codec.specs.declared.Message.the-variants.{Short, Plain, Fragment}
 use Rattle.codec.specs.Fields.{headerOf}
-use Rattle.codec.specs.Reading.{headerChecks, subjectOf, dataOf, payloadOf, longOf, messageOf, readOf}
+use Rattle.codec.specs.Reading.{headerChecks, readChecks, subjectOf, dataOf, payloadOf, longOf, messageOf, readOf}
 use Rattle.codec.specs.Writing.{bytesOf, tidy, subjectFits, longFrame, frameOf, carried}
-use Rattle.codec.proofs.Headers.{long-passes}
-use Rattle.codec.proofs.Datas.{bytes-data, tidy-data, data-bytes}
+use Rattle.codec.specs.Code.{payloadData, unprefixed}
+use Rattle.codec.proofs.Headers.{long-passes, behind}
+use Rattle.codec.proofs.Datas.{bytes-data, tidy-data, data-bytes, data-unprefixed, byte-place}
 use Rattle.codec.proofs.Fits.{SubjectFits}
 use Rattle.codec.proofs.Images.{long-padded, long-length}
 
@@ -128,3 +129,18 @@ pub message-fragment : (r : List ℕ) → (headerOf r .dlc ≡ 0 → ⊥) → he
     → messageOf r ≡ Fragment (subjectOf (headerOf r)) (byteAt (payloadOf r) 0) (byteAt (payloadOf r) 1) (dataOf (drop 2 (payloadOf r)))
 unfolding longOf
 message-fragment r z f = message-long r (headerOf r) refl z ∙ simp (eq-eqb (headerOf r .flag) 1 f)
+
+-- the message of a long form that is read, by the payload's places
+module _ (r : List ℕ) (e : firstOf (readChecks r) ≡ 0) (z : headerOf r .dlc ≡ 0 → ⊥) where
+  payload-data : dataOf (payloadOf r) ≡ payloadData r
+  payload-data = let w = behind r e z in ap dataOf (sym (w .bytes)) ∙ data-bytes (payloadData r) (w .tidied)
+
+  pub payload-plain : (headerOf r .flag ≡ 1 → ⊥) → messageOf r ≡ Plain (subjectOf (headerOf r)) (payloadData r)
+  payload-plain f = message-plain r z f ∙ rw payload-data
+
+  pub payload-fragment : headerOf r .flag ≡ 1
+      → messageOf r ≡ Fragment (subjectOf (headerOf r)) (payloadData r .b0) (payloadData r .b1) (unprefixed (payloadData r))
+  payload-fragment f =
+      let w = behind r e z in
+      message-fragment r z f
+      ∙ rw (← w .bytes, byte-place (payloadData r) (w .tidied) 0, byte-place (payloadData r) (w .tidied) 1, data-unprefixed (payloadData r) (w .tidied))

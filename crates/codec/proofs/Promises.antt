@@ -1,5 +1,5 @@
 -- WHAT THE CODEC PROMISES. The definitions that these statements name stand in specs/; the lemmas behind them in the other files here.
-use Prim.Native.Nat.{ℕ, _<_}
+use Prim.Native.Nat.{ℕ, _<_, _≤_}
 use mathlib.Core.Path.{_≡_, refl, sym, ap, _∙_}
 use mathlib.Core.Bool.{true, false, cond, not}
 use mathlib.Core.List.{List}
@@ -9,24 +9,34 @@ use lib.ListN.{length}
 use lib.Dec.{eqb}
 use borrow.Author.Tests.{eqb-true, eq-eqb, ne-eqb, not-false}
 use denote.Ref.{now}
-use Rattle.laws.specs.Bytes.{Bytes}
+use Rattle.laws.specs.Bytes.{Bytes, padded}
 use Rattle.laws.specs.Checks.{firstOf, holdsAt}
 use Rattle.laws.proofs.Tests.{split}
 use Rattle.laws.proofs.Checks.{FirstAt, given-exactly, none-holds}
 use Rattle.codec.specs.declared.Answer.the-variants.{Got, Refused}
+use Rattle.codec.specs.declared.Subject.{Subject}
+use Rattle.codec.specs.declared.Data.{Data}
 use Rattle.codec.specs.declared.Message.{Message}
 use Rattle.codec.specs.Fields.{headerOf}
 use Rattle.codec.specs.Reading.{readOf, readChecks, numberOf}
-use Rattle.codec.specs.Writing.{Octets, carried, imageOf, writeChecks, writeNumber, writtenOf, clearedOf}
+use Rattle.codec.specs.Writing.{Octets, bytesOf, tidy, subjectFits, carried, longFrame, imageOf, writeChecks, writeNumber, writtenOf, clearedOf}
+use Rattle.codec.specs.Code.{putLong}
+use Rattle.codec.proofs.Images.{places-are-image}
 use Rattle.codec.proofs.Trips.{written, written-read, read-written, read-is-carried, image-octets}
 use Rattle.codec.proofs.bodies.data_from.Reads as data-from
 use Rattle.codec.proofs.bodies.places_of.Reads as places-of
 use Rattle.codec.proofs.octets.byte_at.Reads as byte-at
 use Rattle.codec.proofs.heading.header_of.Reads as header-of
+use Rattle.codec.proofs.reading.payload_of.Reads as payload-of
+use Rattle.codec.proofs.reading.refusal_of.Reads as refusal-of
+use Rattle.codec.proofs.reading.subject_of.Reads as subject-of
+use Rattle.codec.proofs.reading.unprefixed.Reads as unprefixed
 use Rattle.codec.proofs.reading.read.Reads as read
+use Rattle.codec.proofs.writing.prefixed.Reads as prefixed
+use Rattle.codec.proofs.writing.put_long.Reads as put-long
 use Rattle.codec.proofs.writing.write.Reads as write
 
-read-number : (r : List ℕ) → numberOf (readOf r) ≡ firstOf (readChecks r)
+pub read-number : (r : List ℕ) → numberOf (readOf r) ≡ firstOf (readChecks r)
 unfolding readOf
 read-number r =
     split (eqb (firstOf (readChecks r)) 0) (λ z. simp z (sym (eqb-true _ 0 z))) (λ z. simp z)
@@ -89,6 +99,12 @@ refused-is-unread m s e r g =
 pub unused-is-unread : (r : List ℕ) (m : Message) → Bytes r → readOf r ≡ Got m → readOf (clearedOf r) ≡ Got m
 unused-is-unread r m b e = rw (← read-written r m b e) (written-read m (read-is-carried r m e))
 
+-- ---- for who sends frames that it knows to fit: what is put is what writing would leave
+pub put-is-written : (u : Subject) (flag : ℕ) (d : Data) (r : List ℕ) → subjectFits u ≡ true → flag ≤ 1 → tidy 6 d ≡ true → length r ≡ 10
+    → putLong u flag d r ≡ padded 10 (longFrame u flag (bytesOf d))
+unfolding putLong
+put-is-written u flag d r f g t n = simp (eq-eqb (length r) 10 n) (places-are-image u flag d f g t)
+
 -- ---- determination: two outcomes that meet a function's contract are equal
 pub header-determined : (κs : _) (args : _) (r r' : _) (s s' : _) → header-of.Post κs args r s → header-of.Post κs args r' s' → r ≡ r'
 header-determined κs args r r' s s' p q = p ∙ sym q
@@ -101,6 +117,24 @@ byte-determined κs args r r' s s' p q = p ∙ sym q
 
 pub places-determined : (κs : _) (args : _) (r r' : _) (s s' : _) → places-of.Post κs args r s → places-of.Post κs args r' s' → r ≡ r'
 places-determined κs args r r' s s' p q = p ∙ sym q
+
+pub payload-determined : (κs : _) (args : _) (r r' : _) (s s' : _) → payload-of.Post κs args r s → payload-of.Post κs args r' s' → r ≡ r'
+payload-determined κs args r r' s s' p q = p ∙ sym q
+
+pub refusal-determined : (κs : _) (args : _) (r r' : _) (s s' : _) → refusal-of.Post κs args r s → refusal-of.Post κs args r' s' → r ≡ r'
+refusal-determined κs args r r' s s' p q = p ∙ sym q
+
+pub subject-determined : (κs : _) (args : _) (r r' : _) (s s' : _) → subject-of.Post κs args r s → subject-of.Post κs args r' s' → r ≡ r'
+subject-determined κs args r r' s s' p q = p ∙ sym q
+
+pub unprefixed-determined : (κs : _) (args : _) (r r' : _) (s s' : _) → unprefixed.Post κs args r s → unprefixed.Post κs args r' s' → r ≡ r'
+unprefixed-determined κs args r r' s s' p q = p ∙ sym q
+
+pub prefixed-determined : (κs : _) (args : _) (r r' : _) (s s' : _) → prefixed.Post κs args r s → prefixed.Post κs args r' s' → r ≡ r'
+prefixed-determined κs args r r' s s' p q = p ∙ sym q
+
+pub put-determined : (κs : _) (args : _) (r r' : _) (s s' : _) → put-long.Post κs args r s → put-long.Post κs args r' s' → now (s .1 .1 .1 .0) ≡ now (s' .1 .1 .1 .0)
+put-determined κs args r r' s s' p q = p ∙ sym q
 
 pub read-determined : (κs : _) (args : _) (r r' : _) (s s' : _) → read.Post κs args r s → read.Post κs args r' s' → r ≡ r'
 read-determined κs args r r' s s' p q = p ∙ sym q
@@ -122,6 +156,24 @@ byte-asks-nothing κs args = tt
 
 pub places-asks-nothing : (κs : _) (args : _) → places-of.Asked κs args
 places-asks-nothing κs args = tt
+
+pub payload-asks-nothing : (κs : _) (args : _) → payload-of.Asked κs args
+payload-asks-nothing κs args = tt
+
+pub refusal-asks-nothing : (κs : _) (args : _) → refusal-of.Asked κs args
+refusal-asks-nothing κs args = tt
+
+pub subject-asks-nothing : (κs : _) (args : _) → subject-of.Asked κs args
+subject-asks-nothing κs args = tt
+
+pub unprefixed-asks-nothing : (κs : _) (args : _) → unprefixed.Asked κs args
+unprefixed-asks-nothing κs args = tt
+
+pub prefixed-asks-nothing : (κs : _) (args : _) → prefixed.Asked κs args
+prefixed-asks-nothing κs args = tt
+
+pub put-asks-nothing : (κs : _) (args : _) → put-long.Asked κs args
+put-asks-nothing κs args = tt
 
 pub read-asks-nothing : (κs : _) (args : _) → read.Asked κs args
 read-asks-nothing κs args = tt

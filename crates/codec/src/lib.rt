@@ -9,7 +9,13 @@ pub use bodies::data_from;
 pub use bodies::places_of;
 pub use heading::header_of;
 pub use octets::byte_at;
+pub use reading::payload_of;
 pub use reading::read;
+pub use reading::refusal_of;
+pub use reading::subject_of;
+pub use reading::unprefixed;
+pub use writing::prefixed;
+pub use writing::put_long;
 pub use writing::write;
 
 // The fields of a record's first four bytes, as they stand there, whether or not the record is readable.

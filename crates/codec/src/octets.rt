@@ -8,10 +8,3 @@ pub fn byte_at(bytes: &[u8], i: usize) -> u8
 {
     if i < bytes.len() { bytes[i] } else { 0 }
 }
-
-// A byte as a length.
-pub(crate) fn wide(x: u8) -> usize
-    ensures { λ r. ⌜ r ≡ x ⌝ }
-{
-    x as usize
-}

@@ -1,16 +1,20 @@
 // Reading: a record to its message, or the number of the refusal.
 ghost use mathlib.Core.Path.{_≡_};
+ghost use mathlib.Core.Bool.{true, cond};
 ghost use Prim.Native.Nat.{_≤_};
-ghost use lib.ListN.{length};
+ghost use lib.Dec.{ltb};
+ghost use lib.ListN.{length, take, drop};
 ghost use Rattle.laws.specs.Checks.{firstOf};
-ghost use Rattle.codec.specs.Reading.{headerChecks, subjectOf, longOf, readOf};
+ghost use Rattle.codec.specs.Reading.{headerChecks, readChecks, subjectOf, dataOf, longOf, readOf};
+ghost use Rattle.codec.specs.Writing.{tidy, bytesOf};
+ghost use Rattle.codec.specs.Code.{payloadData, unprefixed as Code·unprefixed};
 use crate::Answer;
+use crate::Data;
 use crate::Header;
 use crate::Message;
 use crate::Subject;
 use crate::bodies::data_of;
 use crate::heading::header_of;
-use crate::octets::wide;
 
 // Why a record of ten bytes with this header is refused; 0 where it is read. The order is 01's.
 fn refusal(h: Header) -> u8
@@ -43,7 +47,8 @@ fn refusal(h: Header) -> u8
     0
 }
 
-fn subject_of(h: Header) -> Subject
+// What a long message says of itself, from its header.
+pub fn subject_of(h: Header) -> Subject
     ensures { λ r. ⌜ r ≡ subjectOf h ⌝ }
 {
     Subject {
@@ -56,40 +61,101 @@ fn subject_of(h: Header) -> Subject
     }
 }
 
+// The byte of a place among the first so many; 0 beyond them.
+fn counted(byte: u8, place: u8, count: u8) -> u8
+    ensures { λ r. ⌜ r ≡ cond (ltb place count) byte 0 ⌝ }
+{
+    if place < count { byte } else { 0 }
+}
+
+// What stands behind the ID of a record of ten bytes whose DLC is 2 to 8. All six places are read and those beyond the DLC cleared, which costs less
+// than to test before each.
+fn payload_of_ten(frame: &[u8], len: u8) -> Data
+    requires { ⌜ (length (now frame) ≡ 10) × (len ≤ 6) ⌝ }
+    ensures { λ r. ⌜ r ≡ dataOf (take len (drop 4 (now (frame .entry)))) ⌝ }
+{
+    Data {
+        len,
+        b0: counted(frame[4], 0, len),
+        b1: counted(frame[5], 1, len),
+        b2: counted(frame[6], 2, len),
+        b3: counted(frame[7], 3, len),
+        b4: counted(frame[8], 4, len),
+        b5: counted(frame[9], 5, len),
+    }
+}
+
+// What stands behind the ID, up to the DLC. Nothing of a record that is not ten bytes long, or whose DLC is over 8.
+pub fn payload_of(frame: &[u8]) -> Data
+    ensures { λ r. ⌜ r ≡ payloadData (now (frame .entry)) ⌝ }
+{
+    if frame.len() != 10 {
+        return data_of(b"");
+    }
+    let h = header_of(frame);
+    if 8 < h.dlc {
+        return data_of(b"");
+    }
+    if h.dlc < 2 {
+        return data_of(b"");
+    }
+    payload_of_ten(frame, h.dlc - 2)
+}
+
+// What stands behind a fragment's number and total: the way back from `prefixed`.
+pub fn unprefixed(p: Data) -> Data
+    ensures { λ r. ⌜ r ≡ Code·unprefixed p ⌝ }
+{
+    let len = if p.len < 2 { 0 } else { p.len - 2 };
+    Data {
+        len,
+        b0: p.b2,
+        b1: p.b3,
+        b2: p.b4,
+        b3: p.b5,
+        b4: 0,
+        b5: 0,
+    }
+}
+
 // A long message, of what stands behind its ID. With the flag set the first two bytes are no data.
-fn long_of(about: Subject, flag: u8, payload: &[u8]) -> Message
-    requires { ⌜ (length (now payload) ≤ 6) × (flag ≡ 1 → 2 ≤ length (now payload)) ⌝ }
-    ensures { λ r. ⌜ r ≡ longOf about flag (now (payload .entry)) ⌝ }
+fn long_of(about: Subject, flag: u8, payload: Data) -> Message
+    requires { ⌜ tidy 6 payload ≡ true ⌝ }
+    ensures { λ r. ⌜ r ≡ longOf about flag (bytesOf payload) ⌝ }
 {
     if flag != 1 {
         return Message::Plain {
             about,
-            body: data_of(payload),
+            body: payload,
         };
     }
-    let number = payload[0];
-    let total = payload[1];
-    let body = data_of(&payload[2..]);
     Message::Fragment {
         about,
-        number,
-        total,
-        body,
+        number: payload.b0,
+        total: payload.b1,
+        body: unprefixed(payload),
     }
 }
 
-// The message of a record. Refused are 1 (not ten bytes), 3, 5 and 8, in this order.
+// Why a record is refused: 1 (not ten bytes), 3, 5 or 8, the first that applies; 0 where it is read.
+pub fn refusal_of(frame: &[u8]) -> u8
+    ensures { λ r. ⌜ r ≡ firstOf (readChecks (now (frame .entry))) ⌝ }
+{
+    if frame.len() != 10 {
+        return 1;
+    }
+    refusal(header_of(frame))
+}
+
+// The message of a record, or why it is refused.
 pub fn read(frame: &[u8]) -> Answer
     ensures { λ r. ⌜ r ≡ readOf (now (frame .entry)) ⌝ }
 {
-    if frame.len() != 10 {
-        return Answer::Refused(1);
-    }
-    let h = header_of(frame);
-    let n = refusal(h);
+    let n = refusal_of(frame);
     if n != 0 {
         return Answer::Refused(n);
     }
+    let h = header_of(frame);
     if h.dlc == 0 {
         return Answer::Got(Message::Short {
             dir: h.dir,
@@ -97,6 +163,5 @@ pub fn read(frame: &[u8]) -> Answer
             service: h.service,
         });
     }
-    let end = wide(h.dlc) + 2;
-    Answer::Got(long_of(subject_of(h), h.flag, &frame[4..end]))
+    Answer::Got(long_of(subject_of(h), h.flag, payload_of(frame)))
 }

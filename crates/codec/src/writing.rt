@@ -1,30 +1,20 @@
 // Writing: a message to the ten bytes of a record that carries it.
 ghost use mathlib.Core.Path.{_≡_};
-ghost use mathlib.Core.Bool.{true, _&&_};
-ghost use mathlib.Core.List.{_∷_};
-ghost use Prim.Native.Nat.{_≤_};
-ghost use lib.ListN.{drop};
-ghost use Rattle.laws.specs.Bytes.{zeros, padded};
-ghost use Rattle.codec.specs.Reading.{dataOf};
-ghost use Rattle.codec.specs.Writing.{tidy as Writing·tidy, subjectFits, shortFits, carried as Writing·carried, bytesOf, canHeader, longFrame, imageOf, writeNumber, writtenOf};
+ghost use mathlib.Core.Bool.{true, cond, _&&_};
+ghost use lib.Dec.{ltb};
+ghost use lib.ListN.{length};
+ghost use Rattle.laws.specs.Bytes.{padded};
+ghost use Rattle.codec.specs.Writing.{tidy as Writing·tidy, subjectFits, shortFits, carried as Writing·carried, canHeader, imageOf, writeNumber, writtenOf};
+ghost use Rattle.codec.specs.Code.{prefixed as Code·prefixed, putLong};
 use crate::Data;
 use crate::Message;
 use crate::Subject;
-use crate::bodies::places_of;
-use crate::octets::wide;
 
-// Whether each byte from a place on is 0.
-fn zeros_from(places: &[u8], start: usize) -> bool
-    ensures { λ r. ⌜ r ≡ zeros (drop start (now (places .entry))) ⌝ }
+// The byte of a place that the first so many leave unused; 0 of those.
+fn unused(byte: u8, place: u8, count: u8) -> u8
+    ensures { λ r. ⌜ r ≡ cond (ltb place count) 0 byte ⌝ }
 {
-    let mut i = start;
-    while i < places.len() {
-        if places[i] != 0 {
-            return false;
-        }
-        i += 1;
-    }
-    true
+    if place < count { 0 } else { byte }
 }
 
 fn tidy(most: u8, d: Data) -> bool
@@ -33,8 +23,22 @@ fn tidy(most: u8, d: Data) -> bool
     if most < d.len {
         return false;
     }
-    let places = places_of(d);
-    zeros_from(&places, wide(d.len))
+    if unused(d.b0, 0, d.len) != 0 {
+        return false;
+    }
+    if unused(d.b1, 1, d.len) != 0 {
+        return false;
+    }
+    if unused(d.b2, 2, d.len) != 0 {
+        return false;
+    }
+    if unused(d.b3, 3, d.len) != 0 {
+        return false;
+    }
+    if unused(d.b4, 4, d.len) != 0 {
+        return false;
+    }
+    unused(d.b5, 5, d.len) == 0
 }
 
 fn subject_fits(u: Subject) -> bool
@@ -106,12 +110,11 @@ fn carried(m: Message) -> bool
 }
 
 // What stands behind a fragment's ID: its number, the total byte count, then the data.
-fn prefixed(number: u8, total: u8, d: Data) -> Data
-    requires { ⌜ Writing·tidy 4 d ≡ true ⌝ }
-    ensures { λ r. ⌜ r ≡ dataOf (number ∷ total ∷ bytesOf d) ⌝ }
+pub fn prefixed(number: u8, total: u8, d: Data) -> Data
+    ensures { λ r. ⌜ r ≡ Code·prefixed number total d ⌝ }
 {
     Data {
-        len: d.len + 2,
+        len: d.len % 8 + 2,
         b0: number,
         b1: total,
         b2: d.b0,
@@ -121,23 +124,23 @@ fn prefixed(number: u8, total: u8, d: Data) -> Data
     }
 }
 
-// The ten bytes of a long form, of its flag and what stands behind its ID.
-fn long_image(u: Subject, flag: u8, payload: Data) -> [u8; 10]
-    requires { ⌜ (subjectFits u ≡ true) × (flag ≤ 1) × (Writing·tidy 6 payload ≡ true) ⌝ }
-    ensures { λ r. ⌜ r ≡ padded 10 (longFrame u flag (bytesOf payload)) ⌝ }
+// Puts a long form into a record of ten bytes, of its flag and what stands behind its ID. Nothing is tested: each field is cut to its bits.
+pub fn put_long(u: Subject, flag: u8, payload: Data, frame: &mut [u8])
+    ensures { λ _. ⌜ now (frame .exit) ≡ putLong u flag payload (now (frame .entry)) ⌝ }
 {
-    [
-        u.dir * 128 + u.address,
-        u.service * 32 + (payload.len + 2),
-        u.response * 64 + flag * 32 + u.object,
-        u.id,
-        payload.b0,
-        payload.b1,
-        payload.b2,
-        payload.b3,
-        payload.b4,
-        payload.b5,
-    ]
+    if frame.len() != 10 {
+        return;
+    }
+    frame[0] = u.dir % 2 * 128 + u.address % 128;
+    frame[1] = u.service % 8 * 32 + (payload.len % 8 + 2);
+    frame[2] = u.response % 4 * 64 + flag % 2 * 32 + u.object % 32;
+    frame[3] = u.id;
+    frame[4] = payload.b0;
+    frame[5] = payload.b1;
+    frame[6] = payload.b2;
+    frame[7] = payload.b3;
+    frame[8] = payload.b4;
+    frame[9] = payload.b5;
 }
 
 fn short_image(dir: u8, address: u8, service: u8) -> [u8; 10]
@@ -147,24 +150,32 @@ fn short_image(dir: u8, address: u8, service: u8) -> [u8; 10]
     [dir * 128 + address, service * 32, 0, 0, 0, 0, 0, 0, 0, 0]
 }
 
-// The ten bytes of the record that carries a message.
-fn image(m: Message) -> [u8; 10]
-    requires { ⌜ Writing·carried m ≡ true ⌝ }
-    ensures { λ r. ⌜ r ≡ imageOf m ⌝ }
+fn put_short(dir: u8, address: u8, service: u8, frame: &mut [u8])
+    requires { ⌜ (shortFits dir address service ≡ true) × (length (now frame) ≡ 10) ⌝ }
+    ensures { λ _. ⌜ now (frame .exit) ≡ padded 10 (canHeader dir address service 0) ⌝ }
+{
+    let bytes = short_image(dir, address, service);
+    bytes::copy(&bytes, frame);
+}
+
+// Puts the record that carries a message.
+fn put(m: Message, frame: &mut [u8])
+    requires { ⌜ (Writing·carried m ≡ true) × (length (now frame) ≡ 10) ⌝ }
+    ensures { λ _. ⌜ now (frame .exit) ≡ imageOf m ⌝ }
 {
     match m {
         Message::Short {
             dir,
             address,
             service,
-        } => short_image(dir, address, service),
-        Message::Plain { about, body } => long_image(about, 0, body),
+        } => put_short(dir, address, service, frame),
+        Message::Plain { about, body } => put_long(about, 0, body, frame),
         Message::Fragment {
             about,
             number,
             total,
             body,
-        } => long_image(about, 1, prefixed(number, total, body)),
+        } => put_long(about, 1, prefixed(number, total, body), frame),
     }
 }
 
@@ -176,8 +187,7 @@ pub fn write(m: Message, frame: &mut [u8]) -> u8
         return 1;
     }
     if carried(m) {
-        let bytes = image(m);
-        bytes::copy(&bytes, frame);
+        put(m, frame);
         return 0;
     }
     3

@@ -130,39 +130,21 @@ module _ (own : ℕ) (h : Header) (store work out : List ℕ) where
 
 -- ---- a call
 
--- a plan that sends a frame is of an address that takes seven bits
-data Sends (p : Plan) (own : ℕ) : Type 0 where
-  none : (n : ℕ) → p ≡ Quiet n → Sends p own
-  low : own % 128 ≡ own → Sends p own
-
-sends : (p : Plan) (own : ℕ) (h : Header) (store work out : ℕ) → Ready p own h store work out → Sends p own
-sends (Quiet n) own h store work out r = none n refl
-sends (Error n object) own h store work out r = low (omega (arith, r .address))
-sends (Read a) own h store work out r = low (omega (arith, r .0 .address))
-sends (Write a b) own h store work out r = low (omega (arith, r .0 .address))
-sends (Join a number total b) own h store work out r = low (omega (arith, r .0 .address))
-
-pub low-ready : (p : Plan) (own : ℕ) (h : Header) (store work out : ℕ) → Ready p own h store work out → Ready p (own % 128) h store work out
-low-ready p own h store work out r = go (sends p own h store work out r)
-  where
-    go : Sends p own → Ready p (own % 128) h store work out
-    go (none n e) = subst (λ (q : Plan). Ready q (own % 128) h store work out) (sym e) tt
-    go (low e) = subst (λ (k : ℕ). Ready p k h store work out) (sym e) r
-
-pub low-reply : (p : Plan) (own : ℕ) (h : Header) (x : Areas) (store work out : ℕ) → Ready p own h store work out → replyTo (own % 128) h p x ≡ replyTo own h p x
-unfolding replyTo
-low-reply p own h x store work out r = go (sends p own h store work out r)
-  where
-    go : Sends p own → replyTo (own % 128) h p x ≡ replyTo own h p x
-    go (none n e) = rw e
-    go (low e) = ap (λ (k : ℕ). replyTo k h p x) e
-
-module _ (r : List ℕ) (own : ℕ) (table store work out : List ℕ) (p : Plan) (e : p ≡ planOf (settingOf own table store work out) r) (h : Header) (k : h ≡ headerOf r) where
-  pub step-ready : Ready p (own % 128) h (length store) (length work) (length out)
-  step-ready = rw (e, k) (low-ready (planOf (settingOf own table store work out) r) own (headerOf r) (length store) (length work) (length out) (ready (settingOf own table store work out) r))
-
-  pub step-outcome : carriedOut (own % 128) h p store work out ≡ stepOf r own table store work out
+module _ (r : List ℕ) (own : ℕ) (table store work out : List ℕ) where
+  -- a call is its plan, carried out
+  call : carriedOut own (headerOf r) (planOf (settingOf own table store work out) r) store work out ≡ stepOf r own table store work out
   unfolding stepOf stepWith
-  step-outcome =
-      let s = settingOf own table store work out in
-      rw (e, k, low-reply (planOf s r) own (headerOf r) (areas store work) (length store) (length work) (length out) (ready s r))
+  call = refl
+
+  -- refused with 1 to 6
+  pub quiet-step : (n : ℕ) → planOf (settingOf own table store work out) r ≡ Quiet n → outcome n 0 store work out ≡ stepOf r own table store work out
+  quiet-step n e =
+      quiet-outcome own (headerOf r) store work out n
+      ∙ ap (λ (p : Plan). carriedOut own (headerOf r) p store work out) (sym e) ∙ call
+
+  module _ (p : Plan) (e : p ≡ planOf (settingOf own table store work out) r) (h : Header) (k : h ≡ headerOf r) where
+    pub step-ready : Ready p own h (length store) (length work) (length out)
+    step-ready = rw (e, k) (ready (settingOf own table store work out) r)
+
+    pub step-outcome : carriedOut own h p store work out ≡ stepOf r own table store work out
+    step-outcome = rw (e, k) call

@@ -1,30 +1,38 @@
 -- The plan, decided group by group; and every plan that the checks let through can be carried out.
 use Prim.Native.Nat.{ℕ, _≤_, _<_}
-use mathlib.Core.Path.{_≡_, refl, sym, ap, subst, _∙_}
-use mathlib.Core.Bool.{Bool, true, false, cond, _||_, and-eq-true-iff}
+use mathlib.Core.Path.{_≡_, refl, sym, ap, _∙_}
+use mathlib.Core.Bool.{Bool, true, false, cond, _&&_, _||_}
 use mathlib.Mathlib.Data.Bool.Basic.{or-eq-false-eq-eq-false-and-eq-false as neither}
 use mathlib.Core.List.{List, [], _∷_, _++_}
 use native.Mathlib.Omega.{arith}
 use lib.ListN.{length}
 use lib.Dec.{eqb, leb, ltb}
-use borrow.Author.Tests.{eqb-true, eqb-false, ltb-false, leb-true, leb-false, ne-eqb}
+use borrow.Author.Tests.{eqb-true, eqb-false, ltb-false, leb-false, eq-eqb, ne-eqb, lt-ltb, le-ltb, le-leb}
 use Rattle.laws.specs.Checks.{Check, firstOf, holdsAt, risesFrom}
-use Rattle.laws.proofs.Tests.{split, clash}
-use Rattle.laws.proofs.Checks.{first-append, given-exactly, none-holds}
+use Rattle.laws.proofs.Tests.{split}
+use Rattle.laws.proofs.Checks.{first-append, first-most, given-exactly, none-holds}
 use Rattle.codec.specs.declared.Header.{Header}
 use Rattle.codec.specs.declared.Data.{Data}
+use Rattle.codec.specs.declared.Message.{Message}
+use Rattle.codec.specs.declared.Message.the-variants.{Plain}
 use Rattle.codec.specs.declared.Answer.the-variants.{Got, Refused}
+use Rattle.codec.specs.Names.{writeService, readService}
 use Rattle.codec.specs.Fields.{headerOf}
-use Rattle.codec.specs.Reading.{messageOf, readOf}
+use Rattle.codec.specs.Reading.{barred, subjectOf, dataOf, payloadOf, messageOf, readOf, numberOf}
 use Rattle.codec.proofs.Headers.{ranged}
 use Rattle.codec.proofs.Datas.{tidy-most, bytes-length}
 use Rattle.codec.proofs.Long.{got, message-plain, message-fragment}
+use Rattle.codec.proofs.Trips.{read-message}
+use Rattle.codec.proofs.Promises.{reads-exactly}
 use Rattle.table.specs.declared.Attribute.{Attribute}
+use Rattle.table.specs.Table.{wellFormed}
+use Rattle.table.specs.declared.Found.{Found}
+use Rattle.table.specs.declared.Found.the-variants.{At, Nothing}
 use Rattle.device.specs.declared.Plan.{Plan}
 use Rattle.device.specs.declared.Plan.the-variants.{Quiet, Error, Read, Write, Join}
-use Rattle.device.specs.Checks.{Setting, misfit, noService, soughtIn, planChecks}
+use Rattle.device.specs.Checks.{Setting, misfit, noService, actionOrEvent, badShape, soughtIn, planChecks}
 use Rattle.device.specs.Step.{served, refused, planOf}
-use Rattle.device.specs.Code.{callChecks, frameChecks, attributeChecks, planBy, framePlan, Fitting, Answerable, KeepReady, Ready}
+use Rattle.device.specs.Code.{isLong, callChecks, quietChecks, shapeChecks, attributeChecks, readChecks, servedRead, planBy, requestPlan, Answerable, KeepReady, Ready}
 use Rattle.device.proofs.Plans.{Fit, fit, Passed, passed, Sound, sound}
 
 -- two groups of checks, one after the other
@@ -35,21 +43,96 @@ plan-append cs ds r o p =
     split (eqb (firstOf cs) 0) (λ t. rw a (simp t)) (λ t. rw a (simp t))
 
 pub plan-by-groups : (s : Setting) (r : List ℕ)
-    → planOf s r ≡ planBy (firstOf (callChecks s r)) (headerOf r .object) (framePlan (s .own) (s .table) r)
+    → planOf s r
+    ≡ planBy (firstOf (callChecks s r)) (headerOf r .object)
+    (planBy (firstOf (quietChecks (s .own) (headerOf r))) (headerOf r .object) (requestPlan (s .table) r))
 unfolding planOf
 plan-by-groups s r =
-    let o = headerOf r .object in
-    let late = attributeChecks (headerOf r) (messageOf r) (soughtIn (s .table) (headerOf r)) in
-    let p = served (headerOf r) (messageOf r) (soughtIn (s .table) (headerOf r)) in
-    plan-append (callChecks s r) (frameChecks (s .own) (headerOf r) ++ late) refl o p
-    ∙ ap (planBy (firstOf (callChecks s r)) o) (plan-append (frameChecks (s .own) (headerOf r)) late refl o p)
+    let h = headerOf r in
+    let o = h .object in
+    let quiet = quietChecks (s .own) h in
+    let late = attributeChecks h (messageOf r) (soughtIn (s .table) h) in
+    let p = served h (messageOf r) (soughtIn (s .table) h) in
+    plan-append (callChecks s r) (quiet ++ shapeChecks h ++ late) refl o p
+    ∙ ap (planBy (firstOf (callChecks s r)) o)
+    (plan-append quiet (shapeChecks h ++ late) refl o p ∙ ap (planBy (firstOf quiet) o) (plan-append (shapeChecks h) late refl o p))
 
--- a record of ten bytes that checks 3 to 8 let pass is read by the codec
-pub frame-read : (own : ℕ) (r : List ℕ) → length r ≡ 10 → firstOf (frameChecks own (headerOf r)) ≡ 0 → readOf r ≡ Got (messageOf r)
-unfolding holdsAt
-frame-read own r n e =
-    let none = none-holds (frameChecks own (headerOf r)) refl .0 e in
-    got r n (passed (headerOf r) (none 3) (none 5) (none 7) (none 8) .unrefused)
+-- checks 3 to 6 put no frame
+pub quiet-most : (own : ℕ) (h : Header) → firstOf (quietChecks own h) ≤ 6
+quiet-most own h = first-most 6 (quietChecks own h) refl
+
+-- a frame that checks 1 and 2 let pass
+module _ (s : Setting) (r : List ℕ) (m : misfit s r ≡ false) (w : wellFormed (s .table) (s .store) ≡ true) where
+  pub plan-quiet : (n : ℕ) → n ≡ firstOf (quietChecks (s .own) (headerOf r)) → (n ≡ 0 → ⊥) → planOf s r ≡ Quiet n
+  plan-quiet n e z =
+      let q = firstOf (quietChecks (s .own) (headerOf r)) in
+      plan-by-groups s r ∙ simp (m, w) (simp (ne-eqb q 0 (λ k. z (e ∙ k)), le-leb q 6 (quiet-most (s .own) (headerOf r))) (ap Quiet (sym e)))
+
+  pub plan-request : firstOf (quietChecks (s .own) (headerOf r)) ≡ 0 → planOf s r ≡ requestPlan (s .table) r
+  plan-request e = plan-by-groups s r ∙ simp (m, w) (simp e)
+
+-- what check 8 lets pass of a Read
+pub read-shape : (h : Header) → h .service ≡ readService → (h .flag ≡ 1 → ⊥) → h .dlc ≡ 2 → badShape h ≡ false
+read-shape h s f d =
+    simp (eq-eqb (h .service) readService s, ne-eqb (h .service) writeService (λ q. omega (arith, q)), ne-eqb (h .flag) 1 f, eq-eqb (h .dlc) 2 d)
+
+-- ---- a Request, by its service. Checks 3 to 6 have let it pass.
+module _ (table r : List ℕ) (b : barred (headerOf r) ≡ false) (v : noService (headerOf r) ≡ false) where
+  pub action-request : 5 < headerOf r .service → Error 7 (headerOf r .object) ≡ requestPlan table r
+  action-request t = simp (lt-ltb 5 (headerOf r .service) t)
+
+  long : headerOf r .dlc ≡ 0 → ⊥
+  long q = omega (arith, ltb-false (headerOf r .dlc) 2 (neither (ltb (headerOf r .dlc) 2) (ltb (headerOf r .service) 4) .0 v .0))
+
+  -- the message of a Read that check 8 lets pass is plain, so that 11 to 13 say nothing of it
+  pub read-request : headerOf r .service ≡ readService
+      → planBy (firstOf (readChecks (headerOf r) (soughtIn table (headerOf r)))) (headerOf r .object) (servedRead (headerOf r) (soughtIn table (headerOf r)))
+      ≡ requestPlan table r
+  read-request e =
+      let a : actionOrEvent (headerOf r) ≡ false = le-ltb 5 (headerOf r .service) (omega arith) in
+      split (badShape (headerOf r))
+      (λ t. simp (a, t))
+      (λ t.
+      let m = message-plain r long (passed (headerOf r) b v a t .plain-read e) in
+      by-found a t m (ne-eqb (headerOf r .service) writeService (λ q. omega (arith, q))) (soughtIn table (headerOf r)))
+    where
+      by-found : actionOrEvent (headerOf r) ≡ false → badShape (headerOf r) ≡ false → messageOf r ≡ Plain (subjectOf (headerOf r)) (dataOf (payloadOf r))
+          → eqb (headerOf r .service) writeService ≡ false → (f : Found)
+          → planBy (firstOf (readChecks (headerOf r) f)) (headerOf r .object) (servedRead (headerOf r) f)
+          ≡ planBy (firstOf (shapeChecks (headerOf r))) (headerOf r .object)
+          (planBy (firstOf (attributeChecks (headerOf r) (messageOf r) f)) (headerOf r .object) (served (headerOf r) (messageOf r) f))
+      by-found a t m w Nothing = simp (a, t)
+      by-found a t m w (At x) = simp (a, t) (simp (m, w, eq-eqb (headerOf r .service) readService e))
+
+  module _ (e : headerOf r .service ≡ writeService) where
+    no-action : actionOrEvent (headerOf r) ≡ false
+    no-action = le-ltb 5 (headerOf r .service) (omega arith)
+
+    -- a Write that the codec refuses is of the shape that check 8 refuses
+    pub refused-request : (k : ℕ) → length r ≡ 10 → readOf r ≡ Refused k → Error 8 (headerOf r .object) ≡ requestPlan table r
+    refused-request k n f =
+        split (badShape (headerOf r))
+        (λ t. simp (no-action, t))
+        (λ t.
+        let g = got r n (passed (headerOf r) b v no-action t .unrefused) in
+        let q : _≡_ {A = ℕ} 0 1 = cc in
+        absurd (omega arith))
+
+    -- and of one that it reads, checks 9 to 13 are left
+    pub write-request : (m : Message) → readOf r ≡ Got m
+        → (isLong m ≡ true)
+        × (planBy (firstOf (attributeChecks (headerOf r) m (soughtIn table (headerOf r)))) (headerOf r .object) (served (headerOf r) m (soughtIn table (headerOf r))) ≡ requestPlan table r)
+    unfolding holdsAt
+    write-request m g =
+        let is = read-message r m g in
+        let cramped = reads-exactly r .0 (ap numberOf g) 8 in
+        let dlc = neither (ltb (headerOf r .dlc) 2) (ltb (headerOf r .service) 4) .0 v .0 in
+        let shape : badShape (headerOf r) ≡ false = simp (eq-eqb (headerOf r .service) writeService e, ne-eqb (headerOf r .service) readService (λ q. omega (arith, q))) (simp (le-leb 2 (headerOf r .dlc) (ltb-false (headerOf r .dlc) 2 dlc)) at cramped) in (
+          split (eqb (headerOf r .flag) 1)
+              (λ f. rw (← is, message-fragment r long (eqb-true (headerOf r .flag) 1 f)))
+              (λ f. rw (← is, message-plain r long (eqb-false (headerOf r .flag) 1 f))),
+          rw (← is) (simp (no-action, shape)),
+        )
 
 -- ---- ready plans
 
@@ -101,33 +184,3 @@ ready s r =
     let l = leb-false n 6 q in
     let f = given-exactly (planChecks s r) refl n (omega arith) .0 refl in
     simp (t, q) (answerable s r (f .1 1 (omega arith)) (f .1 5 (omega arith)))))
-
--- header and message of a record that checks 3 to 8 let pass
-pub fitting : (own : ℕ) (r : List ℕ) → firstOf (frameChecks own (headerOf r)) ≡ 0 → Fitting (headerOf r) (messageOf r)
-unfolding holdsAt
-fitting own r e =
-    let none = none-holds (frameChecks own (headerOf r)) refl .0 e in
-    let p = passed (headerOf r) (none 3) (none 5) (none 7) (none 8) in
-    let z : headerOf r .dlc ≡ 0 → ⊥ = λ q. omega (arith, p .long) in
-    record {
-      services = p .services;
-      plain-read = λ t. rw (message-plain r z (p .plain-read t)) (refl, refl);
-      long = split (eqb (headerOf r .flag) 1)
-          (λ f. rw (message-fragment r z (eqb-true (headerOf r .flag) 1 f)))
-          (λ f. rw (message-plain r z (eqb-false (headerOf r .flag) 1 f)));
-    }
-
--- a frame that the codec refuses has a number of the device's own
-pub refused-numbered : (own : ℕ) (r : List ℕ) (k : ℕ) → length r ≡ 10 → readOf r ≡ Refused k → firstOf (frameChecks own (headerOf r)) ≡ 0 → ⊥
-refused-numbered own r k n e z = let g = frame-read own r n z in let q : _≡_ {A = ℕ} 0 1 = cc in omega arith
-
--- the plan of a frame whose number, of checks 3 to 8, is known
-pub refused-plan : (own : ℕ) (table r : List ℕ) (n : ℕ) → n ≡ firstOf (frameChecks own (headerOf r)) → (n ≡ 0 → ⊥) → refused n (headerOf r .object) ≡ framePlan own table r
-refused-plan own table r n e z =
-    subst (λ (k : ℕ). refused k (headerOf r .object) ≡ framePlan own table r) (sym e)
-    (simp (ne-eqb (firstOf (frameChecks own (headerOf r))) 0 (λ q. z (e ∙ q))))
-
-pub passed-plan : (own : ℕ) (table r : List ℕ) → firstOf (frameChecks own (headerOf r)) ≡ 0
-    → planBy (firstOf (attributeChecks (headerOf r) (messageOf r) (soughtIn table (headerOf r)))) (headerOf r .object) (served (headerOf r) (messageOf r) (soughtIn table (headerOf r)))
-    ≡ framePlan own table r
-passed-plan own table r e = simp e

@@ -5,26 +5,33 @@ use mathlib.Core.Bool.{true}
 use mathlib.Core.List.{List, [], _∷_, _++_, append-assoc, append-nil}
 use native.Mathlib.Numerals.{add-one}
 use native.Mathlib.Omega.{arith}
-use lib.ListN.{length, take, drop, length-append, length-take, length-drop}
-use lib.Seq.{drop-drop, take-all, take-at, take-length, drop-append-add}
+use lib.ListN.{length, getD, take, drop, length-append, length-take, length-drop}
+use lib.Seq.{drop-drop, take-all, take-at, take-length, drop-append-add, getD-drop}
 use lib.Dec.{leb}
 use borrow.Author.Tests.{leb-true, leb-false}
 use Rattle.laws.proofs.Tests.{split}
+use Rattle.laws.specs.Bytes.{padded}
 use Rattle.laws.specs.Put.{put}
 use Rattle.laws.proofs.Put.{put-nothing, put-front, part-back}
 use Rattle.codec.specs.declared.Subject.{Subject}
-use Rattle.codec.specs.declared.Message.{Message}
-use Rattle.codec.specs.Writing.{imageOf, carried, writtenOf}
-use Rattle.codec.proofs.Trips.{image-ten, written}
+use Rattle.codec.specs.declared.Data.{Data}
+use Rattle.codec.specs.Reading.{dataOf}
+use Rattle.codec.specs.Writing.{bytesOf, tidy, subjectFits, longFrame}
+use Rattle.codec.specs.Code.{putLong}
+use Rattle.codec.proofs.Datas.{tidy-most, bytes-length, data-taken}
+use Rattle.codec.proofs.Images.{long-length}
+use Rattle.codec.proofs.Promises.{put-is-written}
 use Rattle.device.specs.Step.{fragmentFrame, fragmentFrames, flat, sent}
 use Rattle.device.proofs.Frames.{fragment-ten, fragments-ten, fragments-count, flat-length}
 
--- a record of the output, lent to the codec's writer: the frame is put there
-pub sent-at : (m : Message) (out : List ℕ) (at : ℕ) → carried m ≡ true → at + 10 ≤ length out
-    → take at out ++ (writtenOf m (take 10 (drop at out)) ++ drop 10 (drop at out)) ≡ put out at (imageOf m)
-sent-at m out at c h =
+-- a record of the output, lent to the codec: the frame is put there
+pub sent-at : (u : Subject) (flag : ℕ) (d : Data) (out : List ℕ) (at : ℕ) → subjectFits u ≡ true → flag ≤ 1 → tidy 6 d ≡ true → at + 10 ≤ length out
+    → take at out ++ (putLong u flag d (take 10 (drop at out)) ++ drop 10 (drop at out)) ≡ put out at (padded 10 (longFrame u flag (bytesOf d)))
+sent-at u flag d out at f g t h =
     let n : length (take 10 (drop at out)) ≡ 10 = simp (length-take, length-drop) (omega arith) in
-    rw (written m (take 10 (drop at out)) n c .1) (part-back out (imageOf m) at 10 (image-ten m c))
+    let k : length (bytesOf d) ≤ 6 = omega (arith, bytes-length d t, tidy-most 6 d t) in
+    rw (put-is-written u flag d (take 10 (drop at out)) f g t n)
+    (part-back out (padded 10 (longFrame u flag (bytesOf d))) at 10 (long-length u flag (bytesOf d) k))
 
 -- a frame that is put right behind the others
 pub put-next : (l m bs : List ℕ) (n : ℕ) → length l ≡ n → length bs ≤ length m → put (l ++ m) n bs ≡ (l ++ bs) ++ drop (length bs) m
@@ -68,3 +75,20 @@ piece-cut bs n h =
     (λ t.
     let q : min 4 (length l) ≡ length l = omega (arith, leb-false 4 (length l) t) in
     ap (λ (j : ℕ). take j l) q ∙ take-length l ∙ sym (take-all 4 l (omega (arith, leb-false 4 (length l) t))))
+
+-- four bytes of a part, place by place
+pub four-at : (bs : List ℕ) (n : ℕ) → 4 * n + 4 ≤ length bs
+    → record {
+      len = 4;
+      b0 = getD bs (4 * n) 0;
+      b1 = getD bs (4 * n + 1) 0;
+      b2 = getD bs (4 * n + 2) 0;
+      b3 = getD bs (4 * n + 3) 0;
+      b4 = 0;
+      b5 = 0;
+    }
+    ≡ dataOf (take 4 (drop (4 * n) bs))
+four-at bs n h =
+    let k : 4 ≤ length (drop (4 * n) bs) = simp length-drop (omega arith) in
+    let z : 4 * n + 0 ≡ 4 * n = omega arith in
+    sym (data-taken 4 (drop (4 * n) bs) k ∙ simp (getD-drop (4 * n) bs, z))

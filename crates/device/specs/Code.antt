@@ -10,13 +10,13 @@ use Rattle.codec.specs.declared.Header.{Header}
 use Rattle.codec.specs.declared.Data.{Data}
 use Rattle.codec.specs.declared.Message.{Message}
 use Rattle.codec.specs.declared.Message.the-variants.{Short, Plain, Fragment}
-use Rattle.codec.specs.Names.{writeService, readService}
 use Rattle.codec.specs.Fields.{headerOf}
 use Rattle.codec.specs.Reading.{barred, messageOf}
 use Rattle.codec.specs.Writing.{bytesOf}
 use Rattle.table.specs.declared.Attribute.{Attribute}
 use Rattle.table.specs.declared.Found.{Found}
-use Rattle.table.specs.Table.{writable, endOf}
+use Rattle.table.specs.declared.Found.the-variants.{At, Nothing}
+use Rattle.table.specs.Table.{endOf}
 use Rattle.join.specs.Work.{base}
 use Rattle.join.specs.History.{Shaped}
 use Rattle.device.specs.declared.Plan.{Plan}
@@ -41,15 +41,12 @@ quietChecks own h = (barred h, 3) ∷ (notForUs own h, 4) ∷ (noService h, 5) �
 abbrev pub shapeChecks : Header → List Check
 shapeChecks h = (actionOrEvent h, 7) ∷ (badShape h, 8) ∷ []
 
-abbrev pub frameChecks : ℕ → Header → List Check
-frameChecks own h = quietChecks own h ++ shapeChecks h
-
 -- checks 9 to 13, of the attribute and the message
 abbrev pub attributeChecks : Header → Message → Found → List Check
 attributeChecks h m found =
     (unknown found, 9) ∷ (noAccess h found, 10) ∷ (wrongLength h m found, 11) ∷ (wrongPiece m, 12) ∷ (highNumber m, 13) ∷ []
 
--- of a Write, checks 10 to 13, and of a fragment 12 and 13
+-- of a Write, checks 11 to 13, and of a fragment 12 and 13
 abbrev pub pieceChecks : ℕ → ℕ → Data → List Check
 pieceChecks number total b =
     (not (ltb (4 * number) total) || not (eqb (b .len) (min 4 (total - 4 * number))), 12) ∷ (ltb 63 number, 13) ∷ []
@@ -57,23 +54,22 @@ pieceChecks number total b =
 abbrev pub bodyChecks : Attribute → Message → List Check
 bodyChecks a m = (not (eqb (lengthAsked m) (a .len)), 11) ∷ (wrongPiece m, 12) ∷ (highNumber m, 13) ∷ []
 
-abbrev pub writeChecks : Attribute → Message → List Check
-writeChecks a m = (not (writable a), 10) ∷ bodyChecks a m
+-- of a Read, checks 8 to 10: it has no data that 11 to 13 could look at
+abbrev pub readChecks : Header → Found → List Check
+readChecks h found = (badShape h, 8) ∷ (unknown found, 9) ∷ (noAccess h found, 10) ∷ []
 
--- what checks 3 to 8 leave of header and message: a Read is plain, and what is no Read is a Write, not in short form
-pub record Fitting (h : Header) (m : Message) : Type 0 where
-  pub services : (h .service ≡ readService → ⊥) → h .service ≡ writeService
-  pub plain-read : h .service ≡ readService → (wrongPiece m ≡ false) × (highNumber m ≡ false)
-  pub long : isLong m ≡ true
+abbrev pub servedRead : Header → Found → Plan
+servedRead h Nothing = Error 9 (h .object)
+servedRead h (At a) = Read a
 
 -- refused with a number, or what comes after
 abbrev pub planBy : ℕ → ℕ → Plan → Plan
 planBy n object p = cond (eqb n 0) p (refused n object)
 
--- the plan of a frame that passes checks 1 and 2
-abbrev pub framePlan : ℕ → List ℕ → List ℕ → Plan
-framePlan own table r =
-    planBy (firstOf (frameChecks own (headerOf r))) (headerOf r .object)
+-- the plan of a frame that passes checks 1 to 6
+abbrev pub requestPlan : List ℕ → List ℕ → Plan
+requestPlan table r =
+    planBy (firstOf (shapeChecks (headerOf r))) (headerOf r .object)
     (planBy (firstOf (attributeChecks (headerOf r) (messageOf r) (soughtIn table (headerOf r)))) (headerOf r .object)
     (served (headerOf r) (messageOf r) (soughtIn table (headerOf r))))
 

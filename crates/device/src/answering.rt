@@ -4,12 +4,12 @@ ghost use mathlib.Core.Bool.{true};
 ghost use mathlib.Core.List.{[], _∷_};
 ghost use Prim.Native.Nat.{_+_, _*_, _/_, _≤_, _<_};
 ghost use lib.ListN.{length};
+ghost use Rattle.laws.specs.Bytes.{padded};
 ghost use Rattle.laws.specs.Put.{put};
-ghost use Rattle.codec.specs.Names.{successful};
 ghost use Rattle.codec.specs.Reading.{dataOf};
-ghost use Rattle.codec.specs.Writing.{imageOf, carried, subjectFits};
-ghost use Rattle.codec.specs.declared.Message.the-variants.{Plain};
-ghost use Rattle.device.specs.Step.{answering as Step·answering, fragmentFrame, fragmentFrames, readFrames, flat, sent};
+ghost use Rattle.codec.specs.Writing.{bytesOf, tidy, longFrame, imageOf, subjectFits};
+ghost use Rattle.codec.specs.declared.Message.the-variants.{Plain, Fragment};
+ghost use Rattle.device.specs.Step.{answering as Step·answering, fragmentFrame, fragmentFrames, readFrames, sent};
 ghost use Rattle.device.specs.Code.{Answerable};
 use crate::sizes::least;
 
@@ -28,13 +28,13 @@ fn answering(own: u8, h: codec::Header, response: u8) -> codec::Subject
 }
 
 // Frame n of the reply.
-fn send(m: codec::Message, n: usize, out: &mut [u8])
-    requires { ⌜ (carried m ≡ true) × (n * 10 + 10 ≤ length (now out)) ⌝ }
-    ensures { λ _. ⌜ now (out .exit) ≡ put (now (out .entry)) (n * 10) (imageOf m) ⌝ }
+fn send(about: codec::Subject, flag: u8, payload: codec::Data, n: usize, out: &mut [u8])
+    requires { ⌜ (subjectFits about ≡ true) × (flag ≤ 1) × (tidy 6 payload ≡ true) × (n * 10 + 10 ≤ length (now out)) ⌝ }
+    ensures { λ _. ⌜ now (out .exit) ≡ put (now (out .entry)) (n * 10) (padded 10 (longFrame about flag (bytesOf payload))) ⌝ }
 {
     let at = n * 10;
     let end = at + 10;
-    codec::write(m, &mut out[at..end]);
+    codec::put_long(about, flag, payload, &mut out[at..end]);
 }
 
 // One frame, flag clear, with the bytes of a slice.
@@ -44,7 +44,7 @@ fn send_plain(own: u8, h: codec::Header, response: u8, bytes: &[u8], out: &mut [
 {
     let about = answering(own, h, response);
     let body = codec::data_from(bytes);
-    send(codec::Message::Plain { about, body }, 0, out);
+    send(about, 0, body, 0, out);
 }
 
 // One frame, flag clear, with no data.
@@ -55,6 +55,38 @@ pub(crate) fn send_bare(own: u8, h: codec::Header, response: u8, out: &mut [u8])
     send_plain(own, h, response, b"", out);
 }
 
+// Fragment n of a reply of so many bytes, with its data.
+fn send_piece(about: codec::Subject, n: usize, total: usize, body: codec::Data, out: &mut [u8])
+    requires { ⌜ (subjectFits about ≡ true) × (n ≤ 255) × (total ≤ 255) × (tidy 4 body ≡ true) × (n * 10 + 10 ≤ length (now out)) ⌝ }
+    ensures { λ _. ⌜ now (out .exit) ≡ put (now (out .entry)) (n * 10) (imageOf (Fragment about n total body)) ⌝ }
+{
+    send(
+        about,
+        1,
+        codec::prefixed(n as u8, total as u8, body),
+        n,
+        out,
+    );
+}
+
+// A fragment of four bytes, each taken from its place: most of a long reply is this, so it is worth a way of its own.
+fn send_full(about: codec::Subject, part: &[u8], n: usize, out: &mut [u8])
+    requires { ⌜ (subjectFits about ≡ true) × (length (now part) ≤ 255) × (4 * n + 4 ≤ length (now part)) × (n * 10 + 10 ≤ length (now out)) ⌝ }
+    ensures { λ _. ⌜ now (out .exit) ≡ put (now (out .entry)) (n * 10) (fragmentFrame about (now (part .entry)) n) ⌝ }
+{
+    let start = 4 * n;
+    let body = codec::Data {
+        len: 4,
+        b0: part[start],
+        b1: part[start + 1],
+        b2: part[start + 2],
+        b3: part[start + 3],
+        b4: 0,
+        b5: 0,
+    };
+    send_piece(about, n, part.len(), body, out);
+}
+
 // Fragment n of an attribute's bytes: four of them, or the rest.
 fn send_fragment(about: codec::Subject, part: &[u8], n: usize, out: &mut [u8])
     requires { ⌜ (subjectFits about ≡ true) × (length (now part) ≤ 255) × (4 * n < length (now part)) × (n * 10 + 10 ≤ length (now out)) ⌝ }
@@ -63,29 +95,22 @@ fn send_fragment(about: codec::Subject, part: &[u8], n: usize, out: &mut [u8])
     let start = 4 * n;
     let end = least(start + 4, part.len());
     let body = codec::data_from(&part[start..end]);
-    let number = n as u8;
-    let total = part.len() as u8;
-    send(
-        codec::Message::Fragment {
-            about,
-            number,
-            total,
-            body,
-        },
-        n,
-        out,
-    );
+    send_piece(about, n, part.len(), body, out);
 }
 
-// All fragments of an attribute's bytes, one behind the other.
+// All fragments of an attribute's bytes, one behind the other: the full ones, and the rest if there is one.
 fn send_fragments(about: codec::Subject, part: &[u8], count: usize, out: &mut [u8])
     requires { ⌜ (subjectFits about ≡ true) × (length (now part) ≤ 255) × (count ≡ (length (now part) + 3) / 4) × (640 ≤ length (now out)) ⌝ }
     ensures { λ _. ⌜ now (out .exit) ≡ sent (fragmentFrames about (now (part .entry)) count) (now (out .entry)) ⌝ }
 {
+    let full = part.len() / 4;
     let mut n = 0;
-    while n < count {
-        send_fragment(about, part, n, out);
+    while n < full {
+        send_full(about, part, n, out);
         n += 1;
+    }
+    if n < count {
+        send_fragment(about, part, n, out);
     }
 }
 

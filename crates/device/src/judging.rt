@@ -1,16 +1,15 @@
-// Checks 1 to 13, in 01's order: what a frame asks for. No state is looked at.
+// Checks 7 to 13, in 01's order: what a Request asks for. No state is looked at.
 ghost use mathlib.Core.Path.{_≡_};
-ghost use mathlib.Core.Bool.{true};
+ghost use mathlib.Core.Bool.{true, false};
 ghost use lib.ListN.{length};
 ghost use Rattle.laws.specs.Checks.{firstOf};
-ghost use Rattle.table.specs.Table.{find};
-ghost use Rattle.device.specs.Checks.{setting};
-ghost use Rattle.device.specs.Step.{servedWrite, served, planOf};
-ghost use Rattle.device.specs.Code.{isLong, Fitting, pieceChecks, bodyChecks, writeChecks, attributeChecks, planBy, framePlan};
+ghost use Rattle.codec.specs.Names.{writeService, readService};
+ghost use Rattle.codec.specs.Fields.{headerOf};
+ghost use Rattle.codec.specs.Reading.{barred};
+ghost use Rattle.device.specs.Checks.{noService, soughtIn};
+ghost use Rattle.device.specs.Step.{servedWrite, served};
+ghost use Rattle.device.specs.Code.{isLong, pieceChecks, bodyChecks, attributeChecks, readChecks, servedRead, planBy, requestPlan};
 use crate::Plan;
-use crate::frame_checks::frame_number;
-use crate::frame_checks::misfit;
-use crate::frame_checks::refused;
 use crate::sizes::least;
 use crate::sizes::wide;
 use codec::Answer;
@@ -74,69 +73,57 @@ fn body_plan(object: u8, a: Attribute, m: Message) -> Plan
     }
 }
 
-// Checks 10 to 13 of a Write.
-fn write_plan(object: u8, a: Attribute, m: Message) -> Plan
-    requires { ⌜ isLong m ≡ true ⌝ }
-    ensures { λ r. ⌜ r ≡ planBy (firstOf (writeChecks a m)) object (servedWrite a m) ⌝ }
+// Checks 9 to 13 of a Write.
+fn write_plan(table: &[u8], h: Header, m: Message) -> Plan
+    requires { ⌜ (h .service ≡ writeService) × (isLong m ≡ true) ⌝ }
+    ensures { λ r. ⌜ r ≡ planBy (firstOf (attributeChecks h m (soughtIn (now (table .entry)) h))) (h .object) (served h m (soughtIn (now (table .entry)) h)) ⌝ }
 {
+    let object = h.object;
+    let Found::At(a) = table::find(table, object, h.id) else {
+        return Plan::Error { number: 9, object };
+    };
     if table::may_write(a) {
         return body_plan(object, a, m);
     }
     Plan::Error { number: 10, object }
 }
 
-// Checks 9 to 13. The table is walked once.
-fn attribute_plan(table: &[u8], h: Header, m: Message) -> Plan
-    requires { ⌜ Fitting h m ⌝ }
-    ensures { λ r. ⌜ r ≡ planBy (firstOf (attributeChecks h m (find (now (table .entry)) (h .object) (h .id)))) (h .object) (served h m (find (now (table .entry)) (h .object) (h .id))) ⌝ }
+// Checks 8 to 10 of a Read. It has no data, so the codec is not asked for its message.
+fn read_plan(table: &[u8], h: Header) -> Plan
+    requires { ⌜ h .service ≡ readService ⌝ }
+    ensures { λ r. ⌜ r ≡ planBy (firstOf (readChecks h (soughtIn (now (table .entry)) h))) (h .object) (servedRead h (soughtIn (now (table .entry)) h)) ⌝ }
 {
     let object = h.object;
+    if h.flag == 1 {
+        return Plan::Error { number: 8, object };
+    }
+    if h.dlc != 2 {
+        return Plan::Error { number: 8, object };
+    }
     let Found::At(a) = table::find(table, object, h.id) else {
         return Plan::Error { number: 9, object };
     };
-    if h.service != 5 {
-        return write_plan(object, a, m);
-    }
     if table::may_read(a) {
         return Plan::Read(a);
     }
     Plan::Error { number: 10, object }
 }
 
-// Checks 3 to 13.
-fn frame_plan(frame: &[u8], own: u32, table: &[u8]) -> Plan
-    requires { ⌜ length (now frame) ≡ 10 ⌝ }
-    ensures { λ r. ⌜ r ≡ framePlan own (now (table .entry)) (now (frame .entry)) ⌝ }
+// Checks 7 to 13: what a Request that is for us asks for.
+pub(crate) fn request_plan(frame: &[u8], h: Header, table: &[u8]) -> Plan
+    requires { ⌜ (length (now frame) ≡ 10) × (h ≡ headerOf (now frame)) × (barred h ≡ false) × (noService h ≡ false) ⌝ }
+    ensures { λ r. ⌜ r ≡ requestPlan (now (table .entry)) (now (frame .entry)) ⌝ }
 {
-    let h = codec::header_of(frame);
     let object = h.object;
+    if 5 < h.service {
+        return Plan::Error { number: 7, object };
+    }
+    if h.service == 5 {
+        return read_plan(table, h);
+    }
     let Answer::Got(m) = codec::read(frame) else {
-        // The codec's refusal is no reply yet: the number is the first of the device's own table.
-        return refused(frame_number(h, own), object);
+        // The codec gives no message of a fragment without number and total; of the rest that it refuses, checks 3 and 5 left nothing.
+        return Plan::Error { number: 8, object };
     };
-    let n = frame_number(h, own);
-    if n != 0 {
-        return refused(n, object);
-    }
-    attribute_plan(table, h, m)
-}
-
-// What a frame asks for.
-pub(crate) fn judge(
-    frame: &[u8],
-    own: u32,
-    table: &[u8],
-    store: usize,
-    work: usize,
-    out: usize,
-) -> Plan
-    ensures { λ r. ⌜ r ≡ planOf (setting own (now (table .entry)) store work out) (now (frame .entry)) ⌝ }
-{
-    if misfit(frame, own, table, store, work, out) {
-        return Plan::Quiet(1);
-    }
-    if table::well_formed(table, store) {
-        return frame_plan(frame, own, table);
-    }
-    Plan::Quiet(2)
+    write_plan(table, h, m)
 }

@@ -1,15 +1,17 @@
 -- Zeros behind a list, and a list that is stored element by element.
 use Prim.Native.Nat.{ℕ, zero, suc, _+_, _-_, _<_, _≤_}
 use mathlib.Core.Path.{_≡_, refl, sym, ap, _∙_}
-use mathlib.Core.Bool.{Bool, true, _&&_, and-eq-true-iff}
+use mathlib.Core.Bool.{Bool, true, cond, _&&_, and-eq-true-iff}
 use mathlib.Core.List.{List, [], _∷_, _++_, append-nil}
 use native.Mathlib.Omega.{arith}
-use lib.ListN.{length, getD, take, drop, replicate, length-append, length-replicate, length-take, length-drop, drop-of-length-le, take-append-drop}
-use lib.Seq.{sets, sets-eq, take-add, take-all, take-length, drop-cons, length-take-le}
+use lib.ListN.{length, getD, take, drop, replicate, length-append, length-replicate, length-take, length-drop, drop-of-length-le, take-append-drop, List·getD-eq-default}
+use lib.Seq.{sets, sets-eq, take-add, take-all, take-length, drop-cons, length-take-le, getD-take}
 use native.Mathlib.Numerals.{add-one}
-use lib.Dec.{eqb}
-use borrow.Author.Tests.{eqb-true}
+use native.Mathlib.Nat.{add-zero}
+use lib.Dec.{eqb, ltb}
+use borrow.Author.Tests.{eqb-true, ltb-true, ltb-false}
 use Rattle.laws.specs.Bytes.{Bytes, zeros, padded}
+use Rattle.laws.proofs.Tests.{split}
 
 -- zeros are a repeated 0, and the other way round
 pub zeros-are : (l : List ℕ) → zeros l ≡ true → l ≡ replicate (length l) 0
@@ -86,3 +88,21 @@ bytes-take zero l h i = omega arith
 bytes-take (suc n) [] h i = omega arith
 bytes-take (suc n) (b ∷ l) h zero = h 0
 bytes-take (suc n) (b ∷ l) h (suc i) = bytes-take n l (λ j. h (suc j)) i
+
+-- a byte among the first so many
+pub byte-taken : (n : ℕ) (l : List ℕ) (i : ℕ) → getD (take n l) i 0 ≡ cond (ltb i n) (getD l i 0) 0
+byte-taken n l i =
+    split (ltb i n)
+    (λ t. simp (t, getD-take n l i 0 (ltb-true i n t)))
+    (λ f. simp (f, List·getD-eq-default (take n l) 0 {n = i} (simp length-take (omega (arith, ltb-false i n f)))))
+
+-- the first elements of a list, place by place
+abbrev pub places : ℕ → ℕ → List ℕ → List ℕ
+places zero k l = []
+places (suc n) k l = getD l k 0 ∷ places n (suc k) l
+
+pub placed : (n k : ℕ) (l : List ℕ) → k + n ≤ length l → places n k l ++ drop (k + n) l ≡ drop k l
+placed zero k l h = ap (λ (i : ℕ). drop i l) (add-zero k)
+placed (suc n) k l h =
+    let q : k + suc n ≡ suc k + n = omega arith in
+    rw q (ap (λ (t : List ℕ). getD l k 0 ∷ t) (placed n (suc k) l (omega arith)) ∙ sym (drop-cons l k 0 (omega arith)))

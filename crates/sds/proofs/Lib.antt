@@ -1,3 +1,3 @@
-pub mod Same
+pub mod Places
 pub mod Promises
 pub mod Determined

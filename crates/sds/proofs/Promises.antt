@@ -2,12 +2,13 @@
 use Prim.Native.Nat.{ℕ, _<_, _≤_}
 use mathlib.Core.Path.{_≡_, refl, _∙_}
 use mathlib.Core.Bool.{true, false, not, _&&_, and-eq-true-iff, or-false}
+use mathlib.Mathlib.Data.Bool.Basic.{or-eq-false-eq-eq-false-and-eq-false as neither}
 use mathlib.Core.List.{List, _∷_}
 use mathlib.Core.Logic.{_↔_}
 use native.Mathlib.Omega.{arith}
 use lib.ListN.{length}
 use lib.Dec.{eqb}
-use borrow.Author.Tests.{eq-eqb, ne-eqb, le-ltb, not-false}
+use borrow.Author.Tests.{eqb-true, eq-eqb, ne-eqb, le-ltb, not-false}
 use Rattle.laws.specs.Bytes.{Bytes}
 use Rattle.laws.specs.Checks.{Check, firstOf, holdsAt}
 use Rattle.laws.proofs.Tests.{split, clash}
@@ -17,14 +18,14 @@ use Rattle.codec.specs.declared.Answer.the-variants.{Got, Refused}
 use Rattle.codec.specs.declared.Message.{Message}
 use Rattle.codec.specs.declared.Message.the-variants.{Short, Plain, Fragment}
 use Rattle.codec.specs.Fields.{headerOf}
-use Rattle.codec.specs.Reading.{headerChecks, readChecks, messageOf, readOf, numberOf}
+use Rattle.codec.specs.Reading.{headerChecks, readChecks, dataOf, messageOf, readOf, numberOf}
 use Rattle.codec.specs.Writing.{carried, imageOf, clearedOf}
 use Rattle.codec.proofs.Trips.{written-read, read-written, read-is-carried}
 use Rattle.codec.proofs.Promises as codec
 use Rattle.device.specs.Checks.{setting}
 use Rattle.device.specs.Code.{callChecks}
 use Rattle.sds.specs.Border.{messageSize, longBytes, messageBytes, subjectAt, dataAt, messageAt, bordered, missized, answeredIn, borderReadNumber, borderRead, borderWriteChecks, borderWriteNumber, borderWrite, tableChecks}
-use Rattle.sds.proofs.Same.{same-self, same-equal}
+use Rattle.sds.proofs.Places.{bordered-back}
 
 -- ---- the 16 bytes of a message
 
@@ -41,12 +42,14 @@ message-size (Plain u b) = refl
 message-size (Fragment u n k b) = refl
 
 -- exactly the bytes of messages are taken: another kind, or an unused place that is not 0, is in none of them
-pub bordered-exactly : (l : List ℕ) → (bordered l ≡ true) ↔ ((m : Message) × (messageBytes m ≡ l))
-unfolding bordered
-bordered-exactly l = (
-  λ e. (messageAt l, same-equal (messageBytes (messageAt l)) l e),
-  λ x. rw (← x .1, message-back (x .0)) (same-self (messageBytes (x .0))),
-)
+is-bordered : (m : Message) → bordered (messageBytes m) ≡ true
+unfolding bordered messageBytes longBytes dataOf
+is-bordered (Short d a s) = refl
+is-bordered (Plain u b) = refl
+is-bordered (Fragment u n k b) = refl
+
+pub bordered-exactly : (l : List ℕ) → length l ≡ messageSize → (bordered l ≡ true) ↔ ((m : Message) × (messageBytes m ≡ l))
+bordered-exactly l n = (λ e. (messageAt l, bordered-back l n e), λ x. rw (← x .1) (is-bordered (x .0)))
 
 -- ---- refusals: a number is given exactly when its condition holds and no earlier one's does
 
@@ -98,10 +101,12 @@ read-leaves r l e =
 
 pub write-leaves : (l r : List ℕ) → borderWriteNumber l r ≡ 0
     → (messageBytes (messageAt l) ≡ l) × (carried (messageAt l) ≡ true) × (borderWrite l r ≡ imageOf (messageAt l))
-unfolding borderWriteNumber borderWrite holdsAt bordered
+unfolding borderWriteNumber borderWrite holdsAt
 write-leaves l r e =
-    let a = and-eq-true-iff (bordered l) (carried (messageAt l)) .0 (not-false _ (none-holds (borderWriteChecks l r) refl .0 e 3)) in
-    (same-equal (messageBytes (messageAt l)) l (a .0), a .1, simp (eq-eqb (borderWriteNumber l r) 0 e))
+    let none = none-holds (borderWriteChecks l r) refl .0 e in
+    let a = and-eq-true-iff (bordered l) (carried (messageAt l)) .0 (not-false _ (none 3)) in
+    let n = eqb-true (length l) 16 (not-false _ (neither (not (eqb (length l) 16)) (not (eqb (length r) 10)) .0 (none 1) .0)) in
+    (bordered-back l n (a .0), a .1, simp (eq-eqb (borderWriteNumber l r) 0 e))
 
 -- ---- the round trips (demand 2), of the bytes that C holds
 
@@ -112,7 +117,7 @@ unfolding borderWriteNumber borderWrite
 writes-bytes m r n e =
     let z = eq-eqb (length (messageBytes m)) 16 (message-size m) in
     let t = eq-eqb (length r) 10 n in
-    let b = bordered-exactly (messageBytes m) .1 (m, refl) in
+    let b = is-bordered m in
     let k = message-back m in
     (simp (z, t, b, k, e), simp (z, t, b, k, e))
 
@@ -139,7 +144,7 @@ pub refused-is-unread : (l s : List ℕ) → borderWriteNumber l s ≡ 3 → (r 
 unfolding holdsAt
 refused-is-unread l s e r m g i =
     let h = write-refuses-exactly l s 3 (omega arith) .0 e .0 in
-    let b = bordered-exactly l .1 (m, i) in
+    let b : bordered l ≡ true = rw (← i) (is-bordered m) in
     let k : messageAt l ≡ m = rw (← i) (message-back m) in
     let f : not (bordered l && carried (messageAt l)) ≡ false = simp (b, k, read-is-carried r m g) in
     clash h f

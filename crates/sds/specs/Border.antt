@@ -2,9 +2,9 @@
 use Prim.Native.Nat.{ℕ, _+_, _*_, _%_}
 use mathlib.Core.Bool.{Bool, true, false, cond, not, _&&_, _||_}
 use mathlib.Core.List.{List, [], _∷_}
-use lib.ListN.{length}
+use lib.ListN.{length, drop}
 use lib.Dec.{eqb, ltb}
-use Rattle.laws.specs.Bytes.{byteAt, padded}
+use Rattle.laws.specs.Bytes.{byteAt, zeros}
 use Rattle.laws.specs.Checks.{Check, firstOf}
 use Rattle.codec.specs.declared.Subject.{Subject}
 use Rattle.codec.specs.declared.Data.{Data}
@@ -12,7 +12,7 @@ use Rattle.codec.specs.declared.Message.{Message}
 use Rattle.codec.specs.declared.Message.the-variants.{Short, Plain, Fragment}
 use Rattle.codec.specs.declared.Answer.{Answer}
 use Rattle.codec.specs.declared.Answer.the-variants.{Got, Refused}
-use Rattle.codec.specs.Reading.{readOf, numberOf}
+use Rattle.codec.specs.Reading.{dataOf, readOf, numberOf}
 use Rattle.codec.specs.Writing.{placesOf, carried, imageOf}
 use Rattle.table.specs.Descriptor.{descriptorSize}
 use Rattle.table.specs.Table.{entrySize, wellFormed}
@@ -27,9 +27,13 @@ unfoldable pub longBytes : ℕ → Subject → ℕ → ℕ → Data → List ℕ
 longBytes kind u number total b =
     kind ∷ u .dir ∷ u .address ∷ u .service ∷ u .response ∷ u .object ∷ u .id ∷ number ∷ total ∷ b .len ∷ placesOf b
 
+-- what a short message says of itself: it has no response, object and ID
+abbrev pub shortSubject : ℕ → ℕ → ℕ → Subject
+shortSubject dir address service = record { dir = dir; address = address; service = service; response = 0; object = 0; id = 0 }
+
 -- "kind 0 short, 1 whole, 2 fragment"; "places that its kind does not use are 0"
 unfoldable pub messageBytes : Message → List ℕ
-messageBytes (Short dir address service) = padded messageSize (0 ∷ dir ∷ address ∷ service ∷ [])
+messageBytes (Short dir address service) = longBytes 0 (shortSubject dir address service) 0 0 (dataOf [])
 messageBytes (Plain u b) = longBytes 1 u 0 0 b
 messageBytes (Fragment u number total b) = longBytes 2 u number total b
 
@@ -64,16 +68,11 @@ messageAt l =
     (Plain (subjectAt l) (dataAt l))
     (Fragment (subjectAt l) (byteAt l 7) (byteAt l 8) (dataAt l)))
 
--- whether two lists are equal
-abbrev pub same : List ℕ → List ℕ → Bool
-same [] [] = true
-same [] (y ∷ m) = false
-same (x ∷ l) [] = false
-same (x ∷ l) (y ∷ m) = eqb x y && same l m
-
--- whether 16 bytes are those of their message: no other kind, and 0 in each place that the kind does not use
+-- "no other kind", and "places that its kind does not use are 0": all behind the service of a short message, number and total of a whole one
 unfoldable pub bordered : List ℕ → Bool
-bordered l = same (messageBytes (messageAt l)) l
+bordered l =
+    cond (eqb (byteAt l 0) 0) (zeros (drop 4 l))
+    (cond (eqb (byteAt l 0) 1) (eqb (byteAt l 7) 0 && eqb (byteAt l 8) 0) (eqb (byteAt l 0) 2))
 
 -- reading: 1 where the message buffer has another length, else the codec's number
 unfoldable pub borderReadNumber : List ℕ → List ℕ → ℕ

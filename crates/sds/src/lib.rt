@@ -9,7 +9,8 @@ ghost use Rattle.device.specs.Step.{stepOf};
 use messages::MESSAGE;
 use messages::bordered;
 use messages::message_at;
-use messages::message_bytes;
+use messages::put_places;
+use messages::short_subject;
 
 // One frame: what the device answers, number + 256 * count. Its frames stand at the front of the output.
 #[no_mangle]
@@ -36,14 +37,29 @@ pub extern "C" fn sds_read(frame: &[u8], message: &mut [u8]) -> u32
     if message.len() != MESSAGE {
         return 1;
     }
-    match codec::read(frame) {
-        codec::Answer::Refused(n) => n as u32,
-        codec::Answer::Got(m) => {
-            let places = message_bytes(m);
-            bytes::copy(&places, message);
-            0
-        }
+    let n = codec::refusal_of(frame);
+    if n != 0 {
+        return n as u32;
     }
+    let h = codec::header_of(frame);
+    if h.dlc == 0 {
+        put_places(0, short_subject(h), 0, 0, codec::data_from(b""), message);
+        return 0;
+    }
+    let p = codec::payload_of(frame);
+    if h.flag != 1 {
+        put_places(1, codec::subject_of(h), 0, 0, p, message);
+        return 0;
+    }
+    put_places(
+        2,
+        codec::subject_of(h),
+        p.b0,
+        p.b1,
+        codec::unprefixed(p),
+        message,
+    );
+    0
 }
 
 // Writes the record that carries a message. Refused are 1 (not 16 bytes, or not ten) and then 3 (no readable frame carries it), and the record stays.
@@ -88,7 +104,7 @@ pub extern "C" fn sds_table_check(table: &[u8], store_len: u64) -> u32
     if 32768 < store_len {
         return 1;
     }
-    if table::well_formed(table, store_len as usize) {
+    if table::well_formed(&table[..], store_len as usize) {
         return 0;
     }
     2

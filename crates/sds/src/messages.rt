@@ -1,7 +1,12 @@
 // A message as the 16 bytes that C lends.
 ghost use mathlib.Core.Path.{_≡_};
-ghost use Rattle.sds.specs.Border.{longBytes, messageBytes, subjectAt, dataAt, messageAt, same as Border·same, bordered as Border·bordered};
+ghost use mathlib.Core.Bool.{cond, _&&_};
+ghost use lib.Dec.{eqb};
+ghost use lib.ListN.{length, drop};
+ghost use Rattle.laws.specs.Bytes.{byteAt, zeros};
+ghost use Rattle.sds.specs.Border.{longBytes, shortSubject, subjectAt, dataAt, messageAt, bordered as Border·bordered};
 use codec::Data;
+use codec::Header;
 use codec::Message;
 use codec::Subject;
 use codec::byte_at;
@@ -9,46 +14,42 @@ use codec::byte_at;
 // The bytes of a message.
 pub(crate) const MESSAGE: usize = 16;
 
-fn long_bytes(kind: u8, u: Subject, number: u8, total: u8, b: Data) -> [u8; 16]
-    ensures { λ r. ⌜ r ≡ longBytes kind u number total b ⌝ }
+// Puts the 16 bytes of a message, place by place. A buffer of another length stays.
+pub(crate) fn put_places(kind: u8, u: Subject, number: u8, total: u8, b: Data, message: &mut [u8])
+    ensures { λ _. ⌜ now (message .exit) ≡ cond (eqb (length (now (message .entry))) 16) (longBytes kind u number total b) (now (message .entry)) ⌝ }
 {
-    [
-        kind,
-        u.dir,
-        u.address,
-        u.service,
-        u.response,
-        u.object,
-        u.id,
-        number,
-        total,
-        b.len,
-        b.b0,
-        b.b1,
-        b.b2,
-        b.b3,
-        b.b4,
-        b.b5,
-    ]
+    if message.len() != MESSAGE {
+        return;
+    }
+    message[0] = kind;
+    message[1] = u.dir;
+    message[2] = u.address;
+    message[3] = u.service;
+    message[4] = u.response;
+    message[5] = u.object;
+    message[6] = u.id;
+    message[7] = number;
+    message[8] = total;
+    message[9] = b.len;
+    message[10] = b.b0;
+    message[11] = b.b1;
+    message[12] = b.b2;
+    message[13] = b.b3;
+    message[14] = b.b4;
+    message[15] = b.b5;
 }
 
-// The 16 bytes of a message.
-pub(crate) fn message_bytes(m: Message) -> [u8; 16]
-    ensures { λ r. ⌜ r ≡ messageBytes m ⌝ }
+// The subject of a short message, which has no response, object and ID.
+pub(crate) fn short_subject(h: Header) -> Subject
+    ensures { λ r. ⌜ r ≡ shortSubject (h .dir) (h .address) (h .service) ⌝ }
 {
-    match m {
-        Message::Short {
-            dir,
-            address,
-            service,
-        } => [0, dir, address, service, 0, 0, 0, 0, 0, 0, 0, 0, 0, 0, 0, 0],
-        Message::Plain { about, body } => long_bytes(1, about, 0, 0, body),
-        Message::Fragment {
-            about,
-            number,
-            total,
-            body,
-        } => long_bytes(2, about, number, total, body),
+    Subject {
+        dir: h.dir,
+        address: h.address,
+        service: h.service,
+        response: 0,
+        object: 0,
+        id: 0,
     }
 }
 
@@ -104,16 +105,13 @@ pub(crate) fn message_at(message: &[u8]) -> Message
     }
 }
 
-// Whether two slices are equal.
-fn same(a: &[u8], b: &[u8]) -> bool
-    ensures { λ r. ⌜ r ≡ Border·same (now (a .entry)) (now (b .entry)) ⌝ }
+// Whether each byte from a place on is 0.
+fn zeros_from(places: &[u8], start: usize) -> bool
+    ensures { λ r. ⌜ r ≡ zeros (drop start (now (places .entry))) ⌝ }
 {
-    if a.len() != b.len() {
-        return false;
-    }
-    let mut i = 0;
-    while i < a.len() {
-        if a[i] != b[i] {
+    let mut i = start;
+    while i < places.len() {
+        if places[i] != 0 {
             return false;
         }
         i += 1;
@@ -121,10 +119,26 @@ fn same(a: &[u8], b: &[u8]) -> bool
     true
 }
 
-// Whether 16 bytes are those of their message: writing back what was read tests the kind and all unused places at once.
+// Whether a message has neither fragment number nor total.
+fn unnumbered(message: &[u8]) -> bool
+    ensures { λ r. ⌜ r ≡ (eqb (byteAt (now (message .entry)) 7) 0 && eqb (byteAt (now (message .entry)) 8) 0) ⌝ }
+{
+    if byte_at(message, 7) != 0 {
+        return false;
+    }
+    byte_at(message, 8) == 0
+}
+
+// Whether a kind is one of the three, and each place that it does not use is 0.
 pub(crate) fn bordered(message: &[u8]) -> bool
     ensures { λ r. ⌜ r ≡ Border·bordered (now (message .entry)) ⌝ }
 {
-    let places = message_bytes(message_at(message));
-    same(&places, message)
+    let kind = byte_at(message, 0);
+    if kind == 0 {
+        return zeros_from(message, 4);
+    }
+    if kind == 1 {
+        return unnumbered(message);
+    }
+    kind == 2
 }

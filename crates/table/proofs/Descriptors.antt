@@ -1,9 +1,10 @@
--- Descriptor sizes against 001's own table and examples, computed.
-use Prim.Native.Nat.{ℕ, zero, suc, _+_}
+-- Descriptor sizes against 001's own table and examples, computed; and a law of the size bits.
+use Prim.Native.Nat.{ℕ, zero, suc, _+_, _<_}
 use mathlib.Core.Path.{_≡_, refl}
 use mathlib.Core.List.{List, [], _∷_, _++_, map}
+use native.Mathlib.Omega.{arith}
 use lib.ListN.{replicate}
-use Rattle.table.specs.Descriptor.{sizeBy, descriptorSize}
+use Rattle.table.specs.Descriptor.{sizeBytes, sizeBy, descriptorSize}
 
 -- n numbers from k on
 abbrev from : ℕ → ℕ → List ℕ
@@ -25,3 +26,10 @@ pub other-descriptors : map descriptorSize (0x073F ∷ 0x075F ∷ 0x051F ∷ 0x0
     ≡ 32 ∷ 32 ∷ 64 ∷ 2 ∷ 4 ∷ 0 ∷ 0 ∷ 0 ∷ 2 ∷ 0 ∷ 0 ∷ 1 ∷ []
 unfolding descriptorSize sizeBy
 other-descriptors = refl
+
+-- below long, a size names as many bytes as its number
+pub size-small : (s : ℕ) → s < 3 → sizeBytes s ≡ s
+size-small zero h = refl
+size-small (suc zero) h = refl
+size-small (suc (suc zero)) h = refl
+size-small (suc (suc (suc s))) h = absurd (omega arith)

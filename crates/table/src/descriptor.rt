@@ -20,12 +20,13 @@ const CHARACTER: u16 = 7;
 fn size_bytes(size: u16) -> u8
     ensures { λ r. ⌜ r ≡ sizeBytes size ⌝ }
 {
-    match size {
-        1 => 1,
-        2 => 2,
-        3 => 4,
-        _ => 0,
+    if size == 3 {
+        return 4;
     }
+    if 3 < size {
+        return 0;
+    }
+    size as u8
 }
 
 // A number of points: by the number where no size is given, else as sized if they fit in its bits.

@@ -83,13 +83,13 @@ pub(crate) fn end_of(a: Attribute) -> usize
 fn follows(a: Attribute, least: usize, end: usize) -> bool
     ensures { λ r. ⌜ r ≡ (entryFits a && leb least (pairOf a) && eqb (a .offset) end) ⌝ }
 {
-    if !entry_fits(a) {
-        return false;
-    }
     if pair_of(a) < least {
         return false;
     }
-    (a.offset as usize) == end
+    if (a.offset as usize) != end {
+        return false;
+    }
+    entry_fits(a)
 }
 
 // Check 2: one pass over the table.

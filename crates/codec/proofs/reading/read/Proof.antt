@@ -1,87 +1,71 @@
-use Prim.Native.Nat.{_+_, _-_}
-use lib.ListN.{length-take, length-drop}
-use mathlib.Core.Path.{_≡_, sym, _∙_}
-use borrow.Author.Tests.{ne-eqb, eq-eqb}
+use Rattle.codec.proofs.Headers.{ten-of, Behind, behind}
+use Rattle.codec.proofs.Long.{got}
+use borrow.Author.Tests.{eq-eqb, ne-eqb}
+use Rattle.codec.specs.declared.Header.{Header}
+use mathlib.Core.Path.{_≡_, sym, ap, _∙_}
 use native.Mathlib.Omega.{arith}
 use Rattle.laws.proofs.Tests.{tests}
 use Rattle.codec.specs.Reading.{readOf, messageOf}
-use Rattle.codec.proofs.Headers.{Long, long-of}
 use borrow.Author.Needs.{needs}
 use Rattle.codec.proofs.reading.read.Statement.{statement}
 use Rattle.codec.proofs.reading.read.Tie as tie
 
+refusal-of-requires : tie.Need-refusal-of-requires
+refusal-of-requires c κs = search needs
+
 returns : tie.Need-returns
 unfolding readOf
-returns c = search tests
+returns c = search (tests, ← c .before .refusal-of .ensures)
 
 header-of-requires : tie.Need-header-of-requires
 header-of-requires c κs = search needs
 
-refusal-requires : tie.Need-refusal-requires
-refusal-requires c κs = search needs
-
 returns-2 : tie.Need-returns-2
-unfolding readOf
-returns-2 c = search (tests, ← c .before .refusal .ensures, ← c .before .before .header-of .ensures)
-
-returns-3 : tie.Need-returns-3
-unfolding readOf messageOf
-returns-3 c =
-    let d = c .before .before in
-    search (tests, ← d .before .refusal .ensures, ← d .before .before .header-of .ensures, d .if2 .left)
-
-wide-requires : tie.Need-wide-requires
-wide-requires c κs = search needs
-
-add-end : tie.Need-add-end
-add-end c = search needs
+unfolding messageOf
+returns-2 c =
+    let h = c .before .before in
+    let r = h .before .before in
+    let t = ten-of _ (sym (r .refusal-of .ensures) ∙ h .before .if1 .left) in
+    sym (got _ (t .0) (t .1) ∙ simp (← h .header-of .ensures, eq-eqb _ 0 (c .if2 .taken)))
 
 subject-of-requires : tie.Need-subject-of-requires
 subject-of-requires c κs = search needs
 
--- a long form that is not refused has a DLC of 2 to 8, and one of 4 up where its flag is set
-long : (c : tie.After-subject-of) → Long (c .before .before .before .before .before .before .header-of .result)
-long c =
-    let d = c .before .before .before .before in
-    long-of (d .before .before .header-of .result) (sym (d .before .refusal .ensures) ∙ d .if2 .left) (c .before .before .if3 .left)
+payload-of-requires : tie.Need-payload-of-requires
+payload-of-requires c κs = search needs
 
-sub-long-of : tie.Need-sub-long-of
-sub-long-of c = omega (arith, long c)
-
-part-long-of-start : tie.Need-part-long-of-start
-part-long-of-start c = omega (arith, long c)
-
-part-long-of-end : tie.Need-part-long-of-end
-part-long-of-end c = omega (arith, long c)
+-- what stands behind the ID of a long form that is not refused
+written : (c : tie.After-payload-of)
+    → Behind (c .before .before .before .before .before .before .before .before .args .frame .now) (c .payload-of .result)
+written c =
+    let h = c .before .before .before .before in
+    let r = h .before .before in
+    rw (c .payload-of .ensures)
+    (behind _ (sym (r .refusal-of .ensures) ∙ h .before .if1 .left) (λ z. c .before .before .if2 .left (ap (λ (x : Header). x .dlc) (h .header-of .ensures) ∙ z)))
 
 long-of-requires : tie.Need-long-of-requires
-long-of-requires c κs =
-    let l = long (c .before) in
-    (simp (length-take, length-drop) (omega (arith, l)), λ f. simp (length-take, length-drop) (omega (arith, l .flagged f, l)))
+long-of-requires c κs = written c .tidied
 
-returns-4 : tie.Need-returns-4
-unfolding readOf messageOf
-returns-4 c =
-    let a = c .before .before in
-    let d = a .before .before .before .before in
-    let l = long a in
-    let q : a .before .wide .result + 2 - 4 ≡ d .before .before .header-of .result .dlc - 2 = omega (arith, a .before .wide .ensures) in
-    simp (c .long-of .ensures, a .subject-of .ensures, q, ← d .before .refusal .ensures, ← d .before .before .header-of .ensures, d .if2 .left, ne-eqb _ 0 (a .before .before .if3 .left), eq-eqb _ 10 (d .before .before .before .if1 .left))
+returns-3 : tie.Need-returns-3
+unfolding messageOf
+returns-3 c =
+    let a = c .before in
+    let h = a .before .before .before .before in
+    let r = h .before .before in
+    let t = ten-of _ (sym (r .refusal-of .ensures) ∙ h .before .if1 .left) in
+    sym
+    (got _ (t .0) (t .1)
+    ∙ simp (c .long-of .ensures, a .before .subject-of .ensures, written a .bytes, ← h .header-of .ensures, ne-eqb _ 0 (a .before .before .if2 .left)))
 
 pub read-spec : {M : Type 1} → statement M
 read-spec =
     tie.close
     (tie.spec
+    refusal-of-requires
     returns
     header-of-requires
-    refusal-requires
     returns-2
-    returns-3
-    wide-requires
-    add-end
     subject-of-requires
-    sub-long-of
-    part-long-of-start
-    part-long-of-end
+    payload-of-requires
     long-of-requires
-    returns-4)
+    returns-3)

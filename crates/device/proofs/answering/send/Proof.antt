@@ -12,17 +12,17 @@ mul-at c = search needs
 add-end : tie.Need-add-end
 add-end c = search needs
 
-sub-write : tie.Need-sub-write
-sub-write c = search needs
+sub-put-long : tie.Need-sub-put-long
+sub-put-long c = search needs
 
-part-write-start : tie.Need-part-write-start
-part-write-start c = search needs
+part-put-long-start : tie.Need-part-put-long-start
+part-put-long-start c = search needs
 
-part-write-end : tie.Need-part-write-end
-part-write-end c = search needs
+part-put-long-end : tie.Need-part-put-long-end
+part-put-long-end c = search needs
 
-write-requires : tie.Need-write-requires
-write-requires c κs = search needs
+put-long-requires : tie.Need-put-long-requires
+put-long-requires c κs = search needs
 
 same-length : tie.Need-same-length
 same-length c = search needs
@@ -30,8 +30,9 @@ same-length c = search needs
 returns : tie.Need-returns
 returns c =
     let s = c .before .before .before .before .before in
-    let k : s .args .n * 10 + 10 - s .args .n * 10 ≡ 10 = omega arith in
-    rw (c .before .before .write .ensures .1, k) (sent-at (s .args .m) (s .args .out .now) (s .args .n * 10) (s .pre .0) (s .pre .1))
+    let a = s .args in
+    let k : a .n * 10 + 10 - a .n * 10 ≡ 10 = omega arith in
+    rw (c .before .before .put-long .ensures, k) (sent-at (a .about) (a .flag) (a .payload) (a .out .now) (a .n * 10) (s .pre .0) (s .pre .1) (s .pre .2) (s .pre .3))
 
 pub send-spec : {M : Type 1} → statement M
 send-spec =
@@ -39,9 +40,9 @@ send-spec =
     (tie.spec
     mul-at
     add-end
-    sub-write
-    part-write-start
-    part-write-end
-    write-requires
+    sub-put-long
+    part-put-long-start
+    part-put-long-end
+    put-long-requires
     same-length
     returns)

@@ -1,10 +1,9 @@
 use Prim.Native.Nat.{_+_, _-_, _*_, _≤_}
-use mathlib.Core.Path.{_≡_, ap, sym, _∙_}
+use mathlib.Core.Path.{_≡_, ap, _∙_}
 use native.Mathlib.Omega.{arith}
 use lib.ListN.{length, take, drop, length-take}
 use Rattle.codec.specs.Reading.{dataOf}
-use Rattle.codec.proofs.Fits.{subject-fits}
-use Rattle.codec.proofs.Trips.{fragment-carried}
+use Rattle.codec.proofs.Datas.{tidy-data}
 use Rattle.device.specs.Step.{fragmentFrame}
 use Rattle.device.proofs.Sending.{piece-cut}
 use borrow.Author.Needs.{needs}
@@ -32,22 +31,16 @@ part-data-from-end c = search needs
 data-from-requires : tie.Need-data-from-requires
 data-from-requires c κs = search needs
 
-cast-number : tie.Need-cast-number
-cast-number c = search needs
-
-cast-total : tie.Need-cast-total
-cast-total c = search needs
-
-send-requires : tie.Need-send-requires
-send-requires c κs =
+send-piece-requires : tie.Need-send-piece-requires
+send-piece-requires c κs =
     let s = c .before .before .before .before .before .before in
     let a = s .args in
     let p = s .pre in
     let bs = a .part .now in
-    let cut : take 6 (take (c .before .before .before .least .result - 4 * a .n) (drop (4 * a .n) bs)) ≡ take 4 (drop (4 * a .n) bs) = rw (c .before .before .before .least .ensures) (piece-cut bs (a .n) (p .2)) in
-    let body = c .before .data-from .ensures ∙ ap dataOf cut in
+    let l = c .before .before .before .least in
+    let cut : take 6 (take (l .result - 4 * a .n) (drop (4 * a .n) bs)) ≡ take 4 (drop (4 * a .n) bs) = rw (l .ensures) (piece-cut bs (a .n) (p .2)) in
     let four : length (take 4 (drop (4 * a .n) bs)) ≤ 4 = rw length-take (omega arith) in
-    (rw body (fragment-carried (a .about) (a .n) (length bs) (take 4 (drop (4 * a .n) bs)) (subject-fits (a .about) .0 (p .0)) four), p .3)
+    (p .0, omega arith, p .1, rw (c .before .data-from .ensures ∙ ap dataOf cut) (tidy-data _ (omega arith) 4 four), p .3)
 
 same-length : tie.Need-same-length
 same-length c = search needs
@@ -57,11 +50,10 @@ unfolding fragmentFrame
 returns c =
     let s = c .before .before .before .before .before .before .before .before .before in
     let a = s .args in
-    let p = s .pre in
     let bs = a .part .now in
-    let cut : take 6 (take (c .before .before .before .before .before .before .least .result - 4 * a .n) (drop (4 * a .n) bs)) ≡ take 4 (drop (4 * a .n) bs) = rw (c .before .before .before .before .before .before .least .ensures) (piece-cut bs (a .n) (p .2)) in
-    let body = c .before .before .before .before .data-from .ensures ∙ ap dataOf cut in
-    c .before .before .send .ensures ∙ rw body
+    let l = c .before .before .before .before .before .before .least in
+    let cut : take 6 (take (l .result - 4 * a .n) (drop (4 * a .n) bs)) ≡ take 4 (drop (4 * a .n) bs) = rw (l .ensures) (piece-cut bs (a .n) (s .pre .2)) in
+    c .before .before .send-piece .ensures ∙ rw (c .before .before .before .before .data-from .ensures ∙ ap dataOf cut)
 
 pub send-fragment-spec : {M : Type 1} → statement M
 send-fragment-spec =
@@ -74,8 +66,6 @@ send-fragment-spec =
     part-data-from-start
     part-data-from-end
     data-from-requires
-    cast-number
-    cast-total
-    send-requires
+    send-piece-requires
     same-length
     returns)

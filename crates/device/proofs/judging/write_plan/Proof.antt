@@ -1,7 +1,21 @@
 use mathlib.Core.Path.{_≡_, sym, _∙_}
+use native.Mathlib.Omega.{arith}
+use borrow.Author.Tests.{eq-eqb, ne-eqb}
 use borrow.Author.Needs.{needs}
 use Rattle.device.proofs.judging.write_plan.Statement.{statement}
 use Rattle.device.proofs.judging.write_plan.Tie as tie
+
+find-requires : tie.Need-find-requires
+find-requires c κs = search needs
+
+enum-known-a : tie.Need-enum-known-a
+enum-known-a c = search needs
+
+enum-told : tie.Need-enum-told
+enum-told c = search needs
+
+returns : tie.Need-returns
+returns c = rw (sym (c .before .before .find .ensures) ∙ c .enum-told .given .1)
 
 may-write-requires : tie.Need-may-write-requires
 may-write-requires c κs = search needs
@@ -9,11 +23,31 @@ may-write-requires c κs = search needs
 body-plan-requires : tie.Need-body-plan-requires
 body-plan-requires c κs = search needs
 
-returns : tie.Need-returns
-returns c = simp (sym (c .before .before .may-write .ensures) ∙ c .before .if1 .taken) (c .body-plan .ensures)
-
 returns-2 : tie.Need-returns-2
-returns-2 c = simp (sym (c .before .may-write .ensures) ∙ c .if1 .left)
+returns-2 c =
+    let s = c .before .before .before .before .before .before .before .before in
+    let h = s .args .h in
+    let f = sym (c .before .before .before .before .before .before .find .ensures) ∙ c .before .before .before .before .a .given .1 in
+    rw f
+    (simp (ne-eqb (h .service) 5 (λ q. omega (arith, s .pre .0, q)), eq-eqb (h .service) 4 (s .pre .0), sym (c .before .before .may-write .ensures) ∙ c .before .if1 .taken)
+    (c .body-plan .ensures))
+
+returns-3 : tie.Need-returns-3
+returns-3 c =
+    let s = c .before .before .before .before .before .before .before in
+    let h = s .args .h in
+    let f = sym (c .before .before .before .before .before .find .ensures) ∙ c .before .before .before .a .given .1 in
+    rw f (simp (ne-eqb (h .service) 5 (λ q. omega (arith, s .pre .0, q)), sym (c .before .may-write .ensures) ∙ c .if1 .left))
 
 pub write-plan-spec : {M : Type 1} → statement M
-write-plan-spec = tie.close (tie.spec may-write-requires body-plan-requires returns returns-2)
+write-plan-spec =
+    tie.close
+    (tie.spec
+    find-requires
+    enum-known-a
+    enum-told
+    returns
+    may-write-requires
+    body-plan-requires
+    returns-2
+    returns-3)

@@ -1,0 +1,45 @@
+-- What the code offers besides reading and writing whole messages. Who sends frames that it knows to fit puts them without a test: each field is
+-- cut to its bits, so nothing is asked of it (`Images` shows that what fits is not altered by the cut).
+use Prim.Native.Nat.{ℕ, _+_, _-_, _*_, _%_}
+use mathlib.Core.Bool.{cond, _&&_}
+use mathlib.Core.List.{List, [], _∷_, _++_}
+use lib.ListN.{length}
+use lib.Dec.{eqb, leb}
+use Rattle.codec.specs.declared.Subject.{Subject}
+use Rattle.codec.specs.declared.Data.{Data}
+use Rattle.codec.specs.Fields.{headerOf}
+use Rattle.codec.specs.Reading.{dataOf, payloadOf}
+use Rattle.codec.specs.Writing.{placesOf}
+
+-- what stands behind the ID of a record of ten bytes; of another record, or one with a DLC over 8, none of it
+unfoldable pub payloadData : List ℕ → Data
+payloadData r = cond (eqb (length r) 10 && leb (headerOf r .dlc) 8) (dataOf (payloadOf r)) (dataOf [])
+
+-- what stands behind a fragment's ID: its number, the total byte count, then the data
+unfoldable pub prefixed : ℕ → ℕ → Data → Data
+prefixed number total d = record {
+  len = d .len % 8 + 2;
+  b0 = number;
+  b1 = total;
+  b2 = d .b0;
+  b3 = d .b1;
+  b4 = d .b2;
+  b5 = d .b3;
+}
+
+-- and the way back: what stands behind number and total
+unfoldable pub unprefixed : Data → Data
+unprefixed p = record { len = p .len - 2; b0 = p .b2; b1 = p .b3; b2 = p .b4; b3 = p .b5; b4 = 0; b5 = 0 }
+
+-- the ten bytes of a long form: of its flag, and of what stands behind its ID
+unfoldable pub longPlaces : Subject → ℕ → Data → List ℕ
+longPlaces u flag p =
+    (u .dir % 2 * 128 + u .address % 128)
+    ∷ (u .service % 8 * 32 + (p .len % 8 + 2))
+    ∷ (u .response % 4 * 64 + flag % 2 * 32 + u .object % 32)
+    ∷ u .id
+    ∷ placesOf p
+
+-- the record afterwards: one of another length stays
+unfoldable pub putLong : Subject → ℕ → Data → List ℕ → List ℕ
+putLong u flag p r = cond (eqb (length r) 10) (longPlaces u flag p) r
