@@ -6,10 +6,11 @@ import socket
 import struct
 import subprocess
 import sys
+import time
 
 LIMIT = 120  # seconds for anything that must happen: an emulated machine is slow
 EMULATOR = sys.argv[1:]
-GATEWAY, WATCHED, EXPLAIN = (f"target/hosts/{name}" for name in ("gateway", "gateway-calls", "explain"))
+GATEWAY, WATCHED, EXPLAIN = (f"target/hosts/{name}" for name in ("gateway", "calls/gateway", "explain"))
 CAN_FRAME = struct.Struct("=IB2xB8s")  # identifier and flags, length, raw DLC over 8, data
 EXTENDED, REMOTE, ERROR_FLAG = 0x80000000, 0x40000000, 0x20000000
 WRITE, READ, ACTION, EVENT = 4, 5, 6, 7
@@ -49,6 +50,11 @@ def record_of(frame):
     if identifier > 0x7FF or dlc > 8 or raw:
         raise Failure(f"no standard data frame: {frame.hex(' ')}")
     return bytes([identifier >> 3, (identifier & 7) << 5 | dlc]) + data
+
+
+def read_line(stream):
+    """a line of an unbuffered pipe; nothing at its end or where none comes in time"""
+    return stream.readline() if select.select([stream], [], [], LIMIT)[0] else b""
 
 
 class Host:
@@ -94,9 +100,12 @@ class Peer:
 
     def receive(self):
         try:
-            return record_of(self.link.recv(64))
+            frame = self.link.recv(64)
         except socket.timeout:
             raise Failure("no answer in time") from None
+        if not frame:
+            raise Failure("the gateway has closed the link")
+        return record_of(frame)
 
     def converse(self, *turns):
         """sends each record, and sees just the answers that belong to it; one that has none shows by the next one's"""
@@ -104,10 +113,14 @@ class Peer:
             self.send(rec)
             expect(f"answers to {rec.hex(' ')}", [self.receive() for _ in answers], list(answers))
 
+    def answered(self):
+        """waits for an answer and leaves it unread"""
+        expect("an answer", len(select.select([self.link], [], [], LIMIT)[0]), 1)
+
     def rest(self):
         """the answers until the gateway's end of the link is closed; one that left frames unread shows first as a reset"""
-        answers = []
-        while True:
+        answers, limit = [], time.monotonic() + LIMIT
+        while time.monotonic() < limit:
             try:
                 frame = self.link.recv(64)
             except ConnectionResetError:
@@ -115,20 +128,25 @@ class Peer:
             if not frame:
                 return answers
             answers.append(record_of(frame))
+        raise Failure("answers without an end")
 
     def close(self):
         self.link.close()
 
 
 class Gateway:
-    def __init__(self, device, *options, link=None, program=GATEWAY, fail=None):
+    started = []
+
+    def __init__(self, device, *options, link=None, program=GATEWAY, fail=None, kind=socket.SOCK_SEQPACKET):
         self.peer, passed = None, ()
         if link is None:
-            ours, theirs = socket.socketpair(socket.AF_UNIX, socket.SOCK_SEQPACKET)
+            ours, theirs = socket.socketpair(socket.AF_UNIX, kind)
+            theirs.setsockopt(socket.SOL_SOCKET, socket.SO_SNDBUF, 65536)  # a queue that is soon full, on every machine
             self.peer, passed, link = Peer(ours), (theirs.fileno(),), f"fd:{theirs.fileno()}"
         environment = dict(os.environ, **({"FAIL": fail} if fail else {}))
         self.process = subprocess.Popen([*EMULATOR, program, *device.options(), *options, link], pass_fds=passed, env=environment,
-                                        stdin=subprocess.DEVNULL, stdout=subprocess.PIPE, stderr=subprocess.PIPE)
+                                        bufsize=0, stdin=subprocess.DEVNULL, stdout=subprocess.PIPE, stderr=subprocess.PIPE)
+        Gateway.started.append(self)
         if self.peer:
             theirs.close()
         elif "--trace" in options:
@@ -136,10 +154,10 @@ class Gateway:
 
     def line(self, stream, expected):
         """waits for a line; what other lines come before it does not matter"""
-        for line in iter(lambda: stream.readline() if select.select([stream], [], [], LIMIT)[0] else b"", b""):
+        for line in iter(lambda: read_line(stream), b""):
             if line == expected:
                 return
-        raise Failure(f"no line {expected} of the gateway; {self.process.stderr.read()}")
+        raise Failure(f"no line {expected} of the gateway; {self.last_words()}")
 
     def ends(self, status=0, message=None):
         """waits for the end; gives what it printed"""
@@ -152,6 +170,11 @@ class Gateway:
         if message is not None:
             expect("message", error.decode(), message)
         return out.decode(), error.decode()
+
+    def last_words(self):
+        """for a failure: ends it and gives what it wrote to stderr"""
+        self.process.kill()
+        return "its stderr: " + (self.process.communicate()[1].decode() or "nothing")
 
     def hang_up(self):
         """the peer leaves; a gateway on a socket pair then ends by itself"""
