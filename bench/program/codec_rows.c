@@ -1,0 +1,67 @@
+/* sds_read and sds_write: each form, and each refusal. */
+#include <string.h>
+#include "counting.h"
+#include "reference.h"
+
+typedef uint32_t codec_function(const uint8_t *from, uint64_t from_len, uint8_t *to, uint64_t to_len);
+codec_function empty_codec;
+static codec_function *const readers[SIDES] = {empty_codec, sds_read, ref_read};
+static codec_function *const writers[SIDES] = {empty_codec, sds_write, ref_write};
+
+struct codec_row {
+    const char *name;
+    uint8_t number;          /* the reply */
+    uint8_t from_len;
+    uint8_t from[SDS_MESSAGE];
+};
+
+static const struct codec_row reads[] = {
+    {"short form", 0, 10, {9, 0x80}},
+    {"whole, 2 bytes", 0, 10, {9, 0x84, 3, 10, 1, 2}},
+    {"whole, 6 bytes", 0, 10, {9, 0x88, 3, 10, 1, 2, 3, 4, 5, 6}},
+    {"fragment, 4 bytes", 0, 10, {9, 0x88, 0x23, 10, 3, 32, 1, 2, 3, 4}},
+    {"refusal 1, 9 bytes", 1, 9, {9, 0x84, 3, 10, 1, 2}},
+    {"refusal 3, address 126", 3, 10, {126, 0x84, 3, 10, 1, 2}},
+    {"refusal 5, service 3", 5, 10, {9, 0x64, 3, 10, 1, 2}},
+    {"refusal 8, fragment, DLC 3", 8, 10, {9, 0x83, 0x23, 10, 1}},
+};
+
+static const struct codec_row writes[] = {
+    {"short form", 0, 16, {0, 0, 9, 4}},
+    {"whole, 2 bytes", 0, 16, {1, 0, 9, 4, 0, 3, 10, 0, 0, 2, 1, 2}},
+    {"whole, 6 bytes", 0, 16, {1, 0, 9, 4, 0, 3, 10, 0, 0, 6, 1, 2, 3, 4, 5, 6}},
+    {"fragment, 4 bytes", 0, 16, {2, 0, 9, 4, 0, 3, 10, 3, 32, 4, 1, 2, 3, 4}},
+    {"refusal 1, 15 bytes", 1, 15, {1, 0, 9, 4, 0, 3, 10, 0, 0, 2, 1, 2}},
+    {"refusal 3, kind 3", 3, 16, {3, 0, 9, 4, 0, 3, 10, 0, 0, 2, 1, 2}},
+    {"refusal 3, object 32", 3, 16, {1, 0, 9, 4, 0, 32, 10, 0, 0, 2, 1, 2}},
+    {"refusal 3, a byte beyond the data", 3, 16, {1, 0, 9, 4, 0, 3, 10, 0, 0, 2, 1, 2, 0, 0, 0, 1}},
+};
+
+static uint32_t call_reader(enum side side, const void *row)
+{
+    const struct codec_row *call = row;
+    codec_function *reader = readers[side];
+    mark_begin();
+    uint32_t reply = reader(call->from, call->from_len, lent.message, sizeof lent.message);
+    mark_end();
+    return reply;
+}
+
+static uint32_t call_writer(enum side side, const void *row)
+{
+    const struct codec_row *call = row;
+    codec_function *writer = writers[side];
+    mark_begin();
+    uint32_t reply = writer(call->from, call->from_len, lent.record, sizeof lent.record);
+    mark_end();
+    return reply;
+}
+
+void codec_rows(void)
+{
+    memset(&before, 0xEE, sizeof before);
+    for (unsigned i = 0; i < sizeof reads / sizeof reads[0]; i++)
+        count_row("sds_read", reads[i].name, "-", call_reader, &reads[i], reads[i].number);
+    for (unsigned i = 0; i < sizeof writes / sizeof writes[0]; i++)
+        count_row("sds_write", writes[i].name, "-", call_writer, &writes[i], writes[i].number);
+}

@@ -1,0 +1,28 @@
+# The two marks that the plugin watches; the empty functions, one for each kind of call, that a count is taken against; and two functions
+# whose counts are known, 10 and 22: where they are counted otherwise, nothing is believed.
+    .text
+    .globl mark_begin, mark_end
+    .globl empty_step, empty_codec, empty_size, empty_check
+    .globl straight_10, loop_22
+mark_begin:
+    ret
+mark_end:
+    ret
+empty_step:
+empty_codec:
+empty_size:
+empty_check:
+    ret
+straight_10:
+    .rept 8
+    nop
+    .endr
+    xorl %eax, %eax
+    ret
+loop_22:
+    movl $10, %eax
+again:
+    decl %eax
+    jnz again
+    ret
+    .section .note.GNU-stack, "", @progbits
