@@ -1,15 +1,16 @@
 -- Data and the bytes that it holds: each is read off the other.
-use Prim.Native.Nat.{ℕ, zero, suc, _+_, _-_, _<_, _≤_}
+use Prim.Native.Nat.{ℕ, suc, _+_, _-_, _<_, _≤_}
 use mathlib.Core.Path.{_≡_, refl, sym, ap, _∙_}
-use mathlib.Core.Bool.{Bool, true, cond, _&&_, and-eq-true-iff}
+use mathlib.Core.Bool.{Bool, true, false, cond, _&&_, and-eq-true-iff}
 use mathlib.Core.List.{List, [], _∷_, _++_}
 use native.Mathlib.Omega.{arith}
-use lib.ListN.{length, getD, take, drop, replicate, length-drop, drop-of-length-le}
+use lib.ListN.{length, getD, take, drop, replicate, length-drop}
 use lib.Seq.{length-take-le, take-at, drop-at, getD-drop}
 use lib.Dec.{leb, ltb}
-use borrow.Author.Tests.{leb-true, le-leb, lt-ltb}
+use borrow.Author.Tests.{leb-true, le-leb}
 use Rattle.laws.specs.Bytes.{zeros, padded}
-use Rattle.laws.proofs.Bytes.{are-zeros, getD-past, padded-take, byte-taken}
+use Rattle.laws.proofs.Bytes.{are-zeros, getD-past, padded-take, byte-taken, zeros-at}
+use Rattle.laws.proofs.Tests.{split}
 use Rattle.codec.specs.declared.Data.{Data}
 use Rattle.codec.specs.Reading.{dataOf}
 use Rattle.codec.specs.Writing.{placesOf, bytesOf, tidy}
@@ -93,29 +94,14 @@ unfolding dataOf
 data-taken n l h =
     simp (length-take-le n l h, byte-taken n l 0, byte-taken n l 1, byte-taken n l 2, byte-taken n l 3, byte-taken n l 4, byte-taken n l 5)
 
--- the places that so many bytes leave unused hold 0, tested place by place
-unused-zeros : (n a b c d e f : ℕ) → zeros (drop n (a ∷ b ∷ c ∷ d ∷ e ∷ f ∷ []))
-    ≡ zeros (cond (ltb 0 n) 0 a ∷ cond (ltb 1 n) 0 b ∷ cond (ltb 2 n) 0 c ∷ cond (ltb 3 n) 0 d ∷ cond (ltb 4 n) 0 e ∷ cond (ltb 5 n) 0 f ∷ [])
-unused-zeros zero a b c d e f = refl
-unused-zeros (suc zero) a b c d e f = refl
-unused-zeros (suc (suc zero)) a b c d e f = refl
-unused-zeros (suc (suc (suc zero))) a b c d e f = refl
-unused-zeros (suc (suc (suc (suc zero)))) a b c d e f = refl
-unused-zeros (suc (suc (suc (suc (suc zero))))) a b c d e f = refl
-unused-zeros (suc (suc (suc (suc (suc (suc n)))))) a b c d e f =
-    let m = suc (suc (suc (suc (suc (suc n))))) in
-    ap zeros (drop-of-length-le (a ∷ b ∷ c ∷ d ∷ e ∷ f ∷ []) {i = m} (omega arith))
-    ∙ simp (lt-ltb 0 m (omega arith), lt-ltb 1 m (omega arith), lt-ltb 2 m (omega arith), lt-ltb 3 m (omega arith), lt-ltb 4 m (omega arith), lt-ltb 5 m (omega arith))
-
-pub tidy-by-place : (most : ℕ) (d : Data) → tidy most d
-    ≡ leb (d .len) most
-    && zeros
-    (cond (ltb 0 (d .len)) 0 (d .b0)
-    ∷ cond (ltb 1 (d .len)) 0 (d .b1)
-    ∷ cond (ltb 2 (d .len)) 0 (d .b2)
-    ∷ cond (ltb 3 (d .len)) 0 (d .b3)
-    ∷ cond (ltb 4 (d .len)) 0 (d .b4)
-    ∷ cond (ltb 5 (d .len)) 0 (d .b5)
-    ∷ [])
+-- tidy data by the place that its length is at, and by a place behind it
+pub tidied : (most k : ℕ) (d : Data) → d .len ≡ k → d .len ≤ most → zeros (drop k (placesOf d)) ≡ true → tidy most d ≡ true
 unfolding tidy
-tidy-by-place most d = ap (λ (z : Bool). leb (d .len) most && z) (unused-zeros (d .len) (d .b0) (d .b1) (d .b2) (d .b3) (d .b4) (d .b5))
+tidied most k d e h z = simp (le-leb (d .len) most h) (rw e z)
+
+pub untidied : (most k : ℕ) (d : Data) → d .len ≤ k → (getD (placesOf d) k 0 ≡ 0 → ⊥) → tidy most d ≡ false
+unfolding tidy
+untidied most k d h n =
+    split (tidy most d)
+    (λ t. absurd (n (zeros-at (d .len) (placesOf d) k h (and-eq-true-iff (leb (d .len) most) (zeros (drop (d .len) (placesOf d))) .0 t .1))))
+    (λ f. f)

@@ -1,7 +1,7 @@
 // Writing: a message to the ten bytes of a record that carries it.
 ghost use mathlib.Core.Path.{_≡_};
-ghost use mathlib.Core.Bool.{true, cond, _&&_};
-ghost use lib.Dec.{ltb};
+ghost use mathlib.Core.Bool.{true, _&&_};
+ghost use Prim.Native.Nat.{_≤_};
 ghost use lib.ListN.{length};
 ghost use Rattle.laws.specs.Bytes.{padded};
 ghost use Rattle.codec.specs.Writing.{tidy as Writing·tidy, subjectFits, shortFits, carried as Writing·carried, canHeader, imageOf, writeNumber, writtenOf};
@@ -10,35 +10,48 @@ use crate::Data;
 use crate::Message;
 use crate::Subject;
 
-// The byte of a place that the first so many leave unused; 0 of those.
-fn unused(byte: u8, place: u8, count: u8) -> u8
-    ensures { λ r. ⌜ r ≡ cond (ltb place count) 0 byte ⌝ }
-{
-    if place < count { 0 } else { byte }
-}
-
+// At most so many bytes, and 0 in each place that they leave unused: from the last place down to the length.
 fn tidy(most: u8, d: Data) -> bool
+    requires { ⌜ most ≤ 6 ⌝ }
     ensures { λ r. ⌜ r ≡ Writing·tidy most d ⌝ }
 {
     if most < d.len {
         return false;
     }
-    if unused(d.b0, 0, d.len) != 0 {
+    if d.len == 6 {
+        return true;
+    }
+    if d.b5 != 0 {
         return false;
     }
-    if unused(d.b1, 1, d.len) != 0 {
+    if d.len == 5 {
+        return true;
+    }
+    if d.b4 != 0 {
         return false;
     }
-    if unused(d.b2, 2, d.len) != 0 {
+    if d.len == 4 {
+        return true;
+    }
+    if d.b3 != 0 {
         return false;
     }
-    if unused(d.b3, 3, d.len) != 0 {
+    if d.len == 3 {
+        return true;
+    }
+    if d.b2 != 0 {
         return false;
     }
-    if unused(d.b4, 4, d.len) != 0 {
+    if d.len == 2 {
+        return true;
+    }
+    if d.b1 != 0 {
         return false;
     }
-    unused(d.b5, 5, d.len) == 0
+    if d.len == 1 {
+        return true;
+    }
+    d.b0 == 0
 }
 
 fn subject_fits(u: Subject) -> bool
@@ -81,6 +94,7 @@ fn short_fits(dir: u8, address: u8, service: u8) -> bool
 }
 
 fn long_fits(u: Subject, most: u8, d: Data) -> bool
+    requires { ⌜ most ≤ 6 ⌝ }
     ensures { λ r. ⌜ r ≡ subjectFits u && Writing·tidy most d ⌝ }
 {
     if subject_fits(u) {

@@ -5,7 +5,7 @@ use mathlib.Core.Bool.{Bool, true, cond, _&&_, and-eq-true-iff}
 use mathlib.Core.List.{List, [], _∷_, _++_, append-nil}
 use native.Mathlib.Omega.{arith}
 use lib.ListN.{length, getD, take, drop, replicate, length-append, length-replicate, length-take, length-drop, drop-of-length-le, take-append-drop, List·getD-eq-default}
-use lib.Seq.{sets, sets-eq, take-add, take-all, take-length, drop-cons, length-take-le, getD-take}
+use lib.Seq.{sets, sets-eq, take-add, take-all, take-length, drop-cons, length-take-le, getD-take, getD-drop}
 use native.Mathlib.Numerals.{add-one}
 use native.Mathlib.Nat.{add-zero}
 use lib.Dec.{eqb, ltb}
@@ -67,6 +67,13 @@ zeros-step l i h = simp (add-one, drop-cons l i 0 h)
 
 pub zeros-end : (l : List ℕ) (i : ℕ) → length l ≤ i → zeros (drop i l) ≡ true
 zeros-end l i h = simp (drop-of-length-le l {i = i} h)
+
+-- and what is found behind it
+pub zeros-at : (n : ℕ) (l : List ℕ) (k : ℕ) → n ≤ k → zeros (drop n l) ≡ true → getD l k 0 ≡ 0
+zeros-at n l k h z =
+    let q : n + (k - n) ≡ k = omega arith in
+    sym (ap (λ (i : ℕ). getD l i 0) q) ∙ sym (getD-drop n l (k - n) 0)
+    ∙ ap (λ (m : List ℕ). getD m (k - n) 0) (zeros-are (drop n l) z) ∙ getD-past [] (length (drop n l)) (k - n)
 
 -- a list copied over another of its length
 pub copied : (s d : List ℕ) → length s ≡ length d → take (length s) s ++ drop (length s) d ≡ s

@@ -134,11 +134,14 @@ pub(crate) fn bordered(message: &[u8]) -> bool
     ensures { λ r. ⌜ r ≡ Border·bordered (now (message .entry)) ⌝ }
 {
     let kind = byte_at(message, 0);
+    if 2 < kind {
+        return false;
+    }
     if kind == 0 {
         return zeros_from(message, 4);
     }
     if kind == 1 {
         return unnumbered(message);
     }
-    kind == 2
+    true
 }
