@@ -13,7 +13,8 @@ static const struct entry_points core = {sds_step, sds_read, sds_write, sds_desc
 static const struct entry_points reference = {ref_step, ref_read, ref_write, ref_descriptor_size, ref_table_check};
 
 static struct stream stream;
-static struct areas before, theirs;
+static struct areas theirs;
+static uint8_t record[sizeof theirs.record], message[sizeof theirs.message]; /* as they were before the call */
 
 /* ---- what came up */
 
@@ -50,14 +51,14 @@ static void count(unsigned tally, unsigned place)
     tallies[tally].counts[place]++;
 }
 
-static enum served served_as(const uint8_t *record, uint32_t frames)
+static enum served served_as(const uint8_t *frame, uint32_t answers)
 {
     enum { READ_SERVICE = 5, FLAG = 0x20 };
-    if (record[1] >> 5 == READ_SERVICE)
-        return frames > 1 ? READ_IN_FRAGMENTS : READ_PLAIN;
-    if (!(record[2] & FLAG))
+    if (frame[1] >> 5 == READ_SERVICE)
+        return answers > 1 ? READ_IN_FRAGMENTS : READ_PLAIN;
+    if (!(frame[2] & FLAG))
         return WRITTEN_WHOLE;
-    return frames == 0 ? KEPT : record[4] ? COMPLETED : COMPLETED_ALONE;
+    return answers == 0 ? KEPT : frame[4] ? COMPLETED : COMPLETED_ALONE;
 }
 
 static void count_step(uint32_t reply)
@@ -66,7 +67,7 @@ static void count_step(uint32_t reply)
     count(BY_FRAME, stream.call.frame);
     count(BY_DISTURBANCE, stream.call.disturbance);
     if (SDS_NUMBER(reply) == 0)
-        count(BY_SERVED, served_as(before.record, SDS_COUNT(reply)));
+        count(BY_SERVED, served_as(record, SDS_COUNT(reply)));
 }
 
 static void count_call(uint32_t result)
@@ -76,7 +77,7 @@ static void count_call(uint32_t result)
     switch (stream.call.entry) {
     case STEP: count_step(result); break;
     case READ: count(BY_READ, result ? places_of_refusals[result] : theirs.message[0]); break;
-    case WRITE: count(BY_WRITTEN, result ? places_of_refusals[result] : before.message[0]); break;
+    case WRITE: count(BY_WRITTEN, result ? places_of_refusals[result] : message[0]); break;
     case TABLE_CHECK: count(BY_TABLE, result); break;
     default: count(BY_SIZE, result < 3 ? result : result == 4 ? 3 : 4); break;
     }
@@ -116,9 +117,9 @@ static void print_difference(uint32_t ours, uint32_t reference_says)
     printf("DIFFERS at entry point %d: archive %u, reference %u\n", c->entry, ours, reference_says);
     printf("own %u, descriptor %u, lengths: record %u, message %u, table %u, store %u, work %u, out %u\n", c->own, c->descriptor, c->record_len, c->message_len,
            c->table_len, c->store_len, c->work_len, c->out_len);
-    print_bytes("record", before.record, sizeof before.record);
-    print_bytes("message", before.message, sizeof before.message);
-    print_bytes("table", before.table, c->table_len < 256 ? c->table_len : 256);
+    print_bytes("record", record, sizeof record);
+    print_bytes("message", message, sizeof message);
+    print_bytes("table", theirs.table, c->table_len < 256 ? c->table_len : 256);
     for (size_t i = 0, shown = 0; i < sizeof theirs && shown < 16; i++)
         if (a[i] != b[i])
             shown++, printf("byte %zu of the areas: archive %02X, reference %02X\n", i, a[i], b[i]);
@@ -127,7 +128,8 @@ static void print_difference(uint32_t ours, uint32_t reference_says)
 static int same_call(void)
 {
     stream_next(&stream);
-    before = stream.areas;
+    memcpy(record, stream.areas.record, sizeof record);
+    memcpy(message, stream.areas.message, sizeof message);
     theirs = stream.areas;
     uint32_t expected = stream_call_of(&reference, &stream.call, &theirs), result = stream_call_of(&core, &stream.call, &stream.areas);
     if (result != expected || memcmp(&stream.areas, &theirs, sizeof theirs)) {
