@@ -37,31 +37,34 @@ static const struct codec_row writes[] = {
     {"refusal 3, a byte beyond the data", 3, 16, {1, 0, 9, 4, 0, 3, 10, 0, 0, 2, 1, 2, 0, 0, 0, 1}},
 };
 
-static uint32_t call_reader(enum side side, const void *row)
+/* the direction that is counted: whom it calls, and the buffer that it fills */
+static const struct direction {
+    const char *name;
+    codec_function *const *sides;
+    uint8_t *to;
+    uint64_t to_len;
+} reading = {"sds_read", readers, lent.message, sizeof lent.message}, writing = {"sds_write", writers, lent.record, sizeof lent.record}, *direction;
+
+static uint32_t call_codec(enum side side, const void *row)
 {
     const struct codec_row *call = row;
-    codec_function *reader = readers[side];
+    codec_function *function = direction->sides[side];
     mark_begin();
-    uint32_t reply = reader(call->from, call->from_len, lent.message, sizeof lent.message);
+    uint32_t reply = function(call->from, call->from_len, direction->to, direction->to_len);
     mark_end();
     return reply;
 }
 
-static uint32_t call_writer(enum side side, const void *row)
+static void count_rows(const struct direction *counted, const struct codec_row *rows, size_t count)
 {
-    const struct codec_row *call = row;
-    codec_function *writer = writers[side];
-    mark_begin();
-    uint32_t reply = writer(call->from, call->from_len, lent.record, sizeof lent.record);
-    mark_end();
-    return reply;
+    direction = counted;
+    for (size_t i = 0; i < count; i++)
+        count_row(counted->name, rows[i].name, "-", call_codec, &rows[i], rows[i].number);
 }
 
 void codec_rows(void)
 {
     memset(&before, 0xEE, sizeof before);
-    for (unsigned i = 0; i < sizeof reads / sizeof reads[0]; i++)
-        count_row("sds_read", reads[i].name, "-", call_reader, &reads[i], reads[i].number);
-    for (unsigned i = 0; i < sizeof writes / sizeof writes[0]; i++)
-        count_row("sds_write", writes[i].name, "-", call_writer, &writes[i], writes[i].number);
+    count_rows(&reading, reads, sizeof reads / sizeof reads[0]);
+    count_rows(&writing, writes, sizeof writes / sizeof writes[0]);
 }

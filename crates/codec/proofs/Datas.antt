@@ -94,14 +94,9 @@ unfolding dataOf
 data-taken n l h =
     simp (length-take-le n l h, byte-taken n l 0, byte-taken n l 1, byte-taken n l 2, byte-taken n l 3, byte-taken n l 4, byte-taken n l 5)
 
--- tidy data by the place that its length is at, and by a place behind it
-pub tidied : (most k : ℕ) (d : Data) → d .len ≡ k → d .len ≤ most → zeros (drop k (placesOf d)) ≡ true → tidy most d ≡ true
-unfolding tidy
-tidied most k d e h z = simp (le-leb (d .len) most h) (rw e z)
+-- the places behind the bytes, by the one that the length is at, and by one behind it
+pub rest-at : (k : ℕ) (d : Data) → d .len ≡ k → zeros (drop k (placesOf d)) ≡ true → zeros (drop (d .len) (placesOf d)) ≡ true
+rest-at k d e z = rw e z
 
-pub untidied : (most k : ℕ) (d : Data) → d .len ≤ k → (getD (placesOf d) k 0 ≡ 0 → ⊥) → tidy most d ≡ false
-unfolding tidy
-untidied most k d h n =
-    split (tidy most d)
-    (λ t. absurd (n (zeros-at (d .len) (placesOf d) k h (and-eq-true-iff (leb (d .len) most) (zeros (drop (d .len) (placesOf d))) .0 t .1))))
-    (λ f. f)
+pub rest-not : (k : ℕ) (d : Data) → d .len ≤ k → (getD (placesOf d) k 0 ≡ 0 → ⊥) → zeros (drop (d .len) (placesOf d)) ≡ false
+rest-not k d h n = split (zeros (drop (d .len) (placesOf d))) (λ t. absurd (n (zeros-at (d .len) (placesOf d) k h t))) (λ f. f)

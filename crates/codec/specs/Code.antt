@@ -1,5 +1,5 @@
--- What the code offers besides reading and writing whole messages. Who sends frames that it knows to fit puts them without a test: each field is
--- cut to its bits, so nothing is asked of it (`Images` shows that what fits is not altered by the cut).
+-- What the code offers besides reading and writing whole messages, for every input. Who sends frames that it knows to fit puts them without a test:
+-- each field is cut to the bits that it has in the record, and `put-is-written` says that the cut does not alter what fits.
 use Prim.Native.Nat.{ℕ, _+_, _-_, _*_, _%_}
 use mathlib.Core.Bool.{cond, _&&_}
 use mathlib.Core.List.{List, [], _∷_, _++_}
@@ -15,7 +15,7 @@ use Rattle.codec.specs.Writing.{placesOf}
 unfoldable pub payloadData : List ℕ → Data
 payloadData r = cond (eqb (length r) 10 && leb (headerOf r .dlc) 8) (dataOf (payloadOf r)) (dataOf [])
 
--- what stands behind a fragment's ID: its number, the total byte count, then the data
+-- what stands behind a fragment's ID: its number, the total byte count, then the data, of which four bytes have room; the length cut to three bits
 unfoldable pub prefixed : ℕ → ℕ → Data → Data
 prefixed number total d = record {
   len = d .len % 8 + 2;
@@ -31,7 +31,7 @@ prefixed number total d = record {
 unfoldable pub unprefixed : Data → Data
 unprefixed p = record { len = p .len - 2; b0 = p .b2; b1 = p .b3; b2 = p .b4; b3 = p .b5; b4 = 0; b5 = 0 }
 
--- the ten bytes of a long form: of its flag, and of what stands behind its ID
+-- the ten bytes of a long form (000, figures 3.13 and 3.15; `longFrame` without the cut): of its flag, and of what stands behind its ID
 unfoldable pub longPlaces : Subject → ℕ → Data → List ℕ
 longPlaces u flag p =
     (u .dir % 2 * 128 + u .address % 128)

@@ -2,22 +2,19 @@
 ghost use mathlib.Core.Path.{_≡_};
 ghost use mathlib.Core.Bool.{true, _&&_};
 ghost use Prim.Native.Nat.{_≤_};
-ghost use lib.ListN.{length};
-ghost use Rattle.laws.specs.Bytes.{padded};
-ghost use Rattle.codec.specs.Writing.{tidy as Writing·tidy, subjectFits, shortFits, carried as Writing·carried, canHeader, imageOf, writeNumber, writtenOf};
+ghost use lib.ListN.{length, drop};
+ghost use Rattle.laws.specs.Bytes.{zeros, padded};
+ghost use Rattle.codec.specs.Writing.{placesOf, tidy as Writing·tidy, subjectFits, shortFits, carried as Writing·carried, canHeader, imageOf, writeNumber, writtenOf};
 ghost use Rattle.codec.specs.Code.{prefixed as Code·prefixed, putLong};
 use crate::Data;
 use crate::Message;
 use crate::Subject;
 
-// At most so many bytes, and 0 in each place that they leave unused: from the last place down to the length.
-fn tidy(most: u8, d: Data) -> bool
-    requires { ⌜ most ≤ 6 ⌝ }
-    ensures { λ r. ⌜ r ≡ Writing·tidy most d ⌝ }
+// Whether each place that the bytes leave unused is 0: from the last place down to the length.
+fn rest_is_zero(d: Data) -> bool
+    requires { ⌜ d .len ≤ 6 ⌝ }
+    ensures { λ r. ⌜ r ≡ zeros (drop (d .len) (placesOf d)) ⌝ }
 {
-    if most < d.len {
-        return false;
-    }
     if d.len == 6 {
         return true;
     }
@@ -52,6 +49,17 @@ fn tidy(most: u8, d: Data) -> bool
         return true;
     }
     d.b0 == 0
+}
+
+// At most so many bytes, and 0 in each place that they leave unused.
+fn tidy(most: u8, d: Data) -> bool
+    requires { ⌜ most ≤ 6 ⌝ }
+    ensures { λ r. ⌜ r ≡ Writing·tidy most d ⌝ }
+{
+    if most < d.len {
+        return false;
+    }
+    rest_is_zero(d)
 }
 
 fn subject_fits(u: Subject) -> bool
