@@ -26,7 +26,8 @@ byte-at-requires-6 c κs = search needs
 
 returns : tie.Need-returns
 unfolding dataOf
-returns c = cc
+returns c =
+    simp (c .byte-at6 .ensures, c .before .byte-at5 .ensures, c .before .before .byte-at4 .ensures, c .before .before .before .byte-at3 .ensures, c .before .before .before .before .byte-at2 .ensures, c .before .before .before .before .before .byte-at .ensures)
 
 pub data-of-spec : {M : Type 1} → statement M
 data-of-spec =

@@ -18,7 +18,8 @@ byte-at-requires-4 c κs = search needs
 
 returns : tie.Need-returns
 unfolding headerOf
-returns c = cc (div-one (c .before .before .before .byte-at .result), div-one (c .before .before .byte-at2 .result), div-one (c .before .byte-at3 .result))
+returns c =
+    simp (c .byte-at4 .ensures, c .before .byte-at3 .ensures, c .before .before .byte-at2 .ensures, c .before .before .before .byte-at .ensures, div-one)
 
 pub header-of-spec : {M : Type 1} → statement M
 header-of-spec =
