@@ -1,5 +1,6 @@
 // Data and the bytes that it holds.
 ghost use mathlib.Core.Path.{_≡_};
+ghost use mathlib.Core.List.{[]};
 ghost use Prim.Native.Nat.{_≤_};
 ghost use lib.ListN.{length, take};
 ghost use Rattle.codec.specs.Reading.{dataOf};
@@ -19,6 +20,20 @@ pub(crate) fn data_of(bytes: &[u8]) -> Data
         b3: byte_at(bytes, 3),
         b4: byte_at(bytes, 4),
         b5: byte_at(bytes, 5),
+    }
+}
+
+pub(crate) fn no_data() -> Data
+    ensures { λ r. ⌜ r ≡ dataOf [] ⌝ }
+{
+    Data {
+        len: 0,
+        b0: 0,
+        b1: 0,
+        b2: 0,
+        b3: 0,
+        b4: 0,
+        b5: 0,
     }
 }
 

@@ -13,7 +13,7 @@ use crate::Data;
 use crate::Header;
 use crate::Message;
 use crate::Subject;
-use crate::bodies::data_of;
+use crate::bodies::no_data;
 use crate::heading::header_of;
 
 // Why a record of ten bytes with this header is refused; 0 where it is read. The order is 01's.
@@ -90,14 +90,14 @@ pub fn payload_of(frame: &[u8]) -> Data
     ensures { λ r. ⌜ r ≡ payloadData (now (frame .entry)) ⌝ }
 {
     if frame.len() != 10 {
-        return data_of(b"");
+        return no_data();
     }
     let h = header_of(frame);
     if 8 < h.dlc {
-        return data_of(b"");
+        return no_data();
     }
     if h.dlc < 2 {
-        return data_of(b"");
+        return no_data();
     }
     payload_of_ten(frame, h.dlc - 2)
 }

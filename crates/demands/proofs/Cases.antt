@@ -11,7 +11,7 @@ use Rattle.codec.specs.Writing.{bytesOf, longFrame, frameOf, imageOf}
 use Rattle.table.specs.Descriptor.{sizeBy, descriptorSize}
 use Rattle.table.specs.Table.{attributeOf, attributes, entryFits, wellFrom, wellFormed, findIn, find}
 use Rattle.join.specs.Work.{load, astray, joined, areaAfter}
-use Rattle.device.specs.Step.{planOf, joinedAt, perform, errorFrame, successFrame, replyTo, next}
+use Rattle.guest.specs.Step.{planOf, joinedAt, perform, errorFrame, successFrame, replyTo, next}
 use Rattle.demands.specs.Sample.{sampleTable, sample, fresh}
 use Rattle.demands.specs.Cases.{rising, cases, descriptors, outcome, expected, byTurns}
 

@@ -21,12 +21,12 @@ use Rattle.codec.specs.Fields.{headerOf}
 use Rattle.codec.specs.Reading.{messageOf}
 use Rattle.codec.proofs.Headers.{ranged}
 use Rattle.join.specs.Work.{base}
-use Rattle.device.specs.Checks.{Setting, outOfOrder, soughtIn, planChecks, checks}
-use Rattle.device.specs.Step.{Areas, errorFrame, answer, sent, Outcome, settingOf, stepWith, stepOf}
-use Rattle.device.proofs.Plans.{Fit, fit, Unrefused, unrefused-by}
-use Rattle.device.proofs.Numbers.{number-is, no-thirteen}
-use Rattle.device.proofs.Effects.{quiet-outcome, error-outcome, astray-outcome}
-use Rattle.device.proofs.Frames.{error-ten}
+use Rattle.guest.specs.Checks.{Setting, outOfOrder, soughtIn, planChecks, checks}
+use Rattle.guest.specs.Step.{Areas, errorFrame, answer, sent, Outcome, settingOf, stepWith, stepOf}
+use Rattle.guest.proofs.Plans.{Fit, fit, Unrefused, unrefused-by}
+use Rattle.guest.proofs.Numbers.{number-is, no-thirteen}
+use Rattle.guest.proofs.Effects.{quiet-outcome, error-outcome, astray-outcome}
+use Rattle.guest.proofs.Frames.{error-ten}
 
 -- nothing is altered, and no frame put
 pub record Untouched (o : Outcome) (store work out : List ℕ) : Type 0 where

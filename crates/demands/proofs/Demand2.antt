@@ -28,14 +28,14 @@ use Rattle.table.specs.Table.{find, partOf}
 use Rattle.table.proofs.Tables.{part-whole}
 use Rattle.join.specs.Work.{Piece, Joined, base, load, joined, areaAfter}
 use Rattle.join.specs.History.{Shaped}
-use Rattle.device.specs.declared.Plan.{Plan}
-use Rattle.device.specs.declared.Plan.the-variants.{Quiet, Error, Read, Write, Join}
-use Rattle.device.specs.Checks.{Setting, pieceOf}
-use Rattle.device.specs.Step.{planOf, Areas, storeAfter, joinedAt, perform, answering, errorFrame, successFrame, readFrames, joinReply, replyTo, answer, flat, sent, Outcome, settingOf, outcomeOf, stepWith, stepOf}
-use Rattle.device.specs.Frames.{Tens, dataOfFrames}
-use Rattle.device.proofs.Plans.{Sound, sound}
-use Rattle.device.proofs.Effects.{InRange, in-range}
-use Rattle.device.proofs.Frames.{reply-tens, reply-count, flat-length, read-data, read-count, error-reads, success-reads}
+use Rattle.guest.specs.declared.Plan.{Plan}
+use Rattle.guest.specs.declared.Plan.the-variants.{Quiet, Error, Read, Write, Join}
+use Rattle.guest.specs.Checks.{Setting, pieceOf}
+use Rattle.guest.specs.Step.{planOf, Areas, storeAfter, joinedAt, perform, answering, errorFrame, successFrame, readFrames, joinReply, replyTo, answer, flat, sent, Outcome, settingOf, outcomeOf, stepWith, stepOf}
+use Rattle.guest.specs.Frames.{Tens, dataOfFrames}
+use Rattle.guest.proofs.Plans.{Sound, sound}
+use Rattle.guest.proofs.Effects.{InRange, in-range}
+use Rattle.guest.proofs.Frames.{reply-tens, reply-count, flat-length, read-data, read-count, error-reads, success-reads}
 
 -- ---- the codec, alone
 

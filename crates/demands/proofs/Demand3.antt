@@ -14,12 +14,12 @@ use Rattle.laws.proofs.Mixing.{mixed, in-series, in-turn, free-anywhere}
 use Rattle.join.specs.Work.{Piece, base, load}
 use Rattle.join.specs.History.{completes, Completes}
 use Rattle.join.proofs.Joins.{completes-in-words}
-use Rattle.device.specs.Checks.{Setting}
-use Rattle.device.specs.Step.{Areas, next, answer, object}
-use Rattle.device.specs.Belongs.{Good}
-use Rattle.device.specs.History.{shown, said}
-use Rattle.device.proofs.Mixed.{device-local, object-below}
-use Rattle.device.proofs.Shown.{run-since, shows, says}
+use Rattle.guest.specs.Checks.{Setting}
+use Rattle.guest.specs.Step.{Areas, next, answer, object}
+use Rattle.guest.specs.Belongs.{Good}
+use Rattle.guest.specs.History.{shown, said}
+use Rattle.guest.proofs.Mixed.{device-local, object-below}
+use Rattle.guest.proofs.Shown.{run-since, shows, says}
 
 -- where a device starts: its store as long as the setting says, and a cleared work area of the accepted size.
 -- (Nothing is asked of the table, the address and the other sizes: where checks 1 or 2 refuse them, every frame gets that answer.)

@@ -10,8 +10,8 @@ use Rattle.laws.specs.Put.{put}
 use Rattle.laws.specs.Mixing.{run}
 use Rattle.codec.specs.Fields.{headerOf}
 use Rattle.join.specs.History.{chain, gather, completes, message}
-use Rattle.device.specs.Step.{answer, Areas, sent, settingOf, Outcome, stepWith, stepOf}
-use Rattle.device.specs.History.{shown}
+use Rattle.guest.specs.Step.{answer, Areas, sent, settingOf, Outcome, stepWith, stepOf}
+use Rattle.guest.specs.History.{shown}
 use Rattle.demands.specs.Sample.{sample, fresh}
 use Rattle.demands.specs.Cases.{rising, p1, p1Answer, p1Store, tagFragment}
 use Rattle.demands.proofs.Cases.{computing}

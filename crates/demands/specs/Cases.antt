@@ -3,7 +3,7 @@ use Prim.Native.Nat.{ℕ, zero, suc, _+_, _*_}
 use mathlib.Core.List.{List, [], _∷_, _++_, map, flatMap}
 use Rattle.laws.specs.Put.{put}
 use Rattle.laws.specs.Mixing.{run, trace}
-use Rattle.device.specs.Step.{Areas, Reply, next, answer}
+use Rattle.guest.specs.Step.{Areas, Reply, next, answer}
 use Rattle.demands.specs.Sample.{sample, fresh}
 
 -- a record, byte by byte

@@ -2,8 +2,8 @@
 use Prim.Native.Nat.{ℕ}
 use mathlib.Core.List.{List, [], _∷_}
 use lib.ListN.{replicate}
-use Rattle.device.specs.Checks.{Setting}
-use Rattle.device.specs.Step.{Areas}
+use Rattle.guest.specs.Checks.{Setting}
+use Rattle.guest.specs.Step.{Areas}
 
 unfoldable pub sampleTable : List ℕ
 sampleTable =

@@ -1,11 +1,3 @@
-pub mod Facts
-pub mod Plans
-pub mod Numbers
 pub mod Ready
 pub mod Outcomes
-pub mod Effects
-pub mod Frames
-pub mod Sending
-pub mod Mixed
-pub mod Shown
 pub mod Determined

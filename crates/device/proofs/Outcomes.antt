@@ -19,11 +19,11 @@ use Rattle.table.specs.declared.Attribute.{Attribute}
 use Rattle.join.specs.Work.{Joined, kept, done, lost, base, load, astray, last, joined, areaAfter}
 use Rattle.join.proofs.Parts.{astray-any, held-part}
 use Rattle.codec.specs.declared.Header.{Header}
-use Rattle.device.specs.declared.Plan.{Plan}
-use Rattle.device.specs.declared.Plan.the-variants.{Quiet, Error, Read, Write, Join}
+use Rattle.guest.specs.declared.Plan.{Plan}
+use Rattle.guest.specs.declared.Plan.the-variants.{Quiet, Error, Read, Write, Join}
 use Rattle.table.specs.Table.{partOf}
-use Rattle.device.specs.Checks.{pieceOf}
-use Rattle.device.specs.Step.{storeAfter, joinedAt, perform, answering, errorFrame, successFrame, readFrames, joinReply, replyTo, planOf, Areas, outcomeOf, sent, settingOf, stepWith, stepOf}
+use Rattle.guest.specs.Checks.{pieceOf}
+use Rattle.guest.specs.Step.{storeAfter, joinedAt, perform, answering, errorFrame, successFrame, readFrames, joinReply, replyTo, planOf, Areas, outcomeOf, sent, settingOf, stepWith, stepOf}
 use Rattle.device.specs.Code.{KeepReady, Ready, joinedBytes, areas, outcome, carriedOut}
 use Rattle.device.proofs.Ready.{ready}
 
@@ -77,20 +77,20 @@ module _ (a : Attribute) (number total : ℕ) (b : Data) where
 
     pub lost-outcome : astray 4 (load at work) (record { id = a .id; total = total; number = number; bytes = [] }) ≡ true
         → (w o : List ℕ) → w ≡ cond (ltb at (length work)) (put work at (0 ∷ [])) work
-        → o ≡ sent (imageOf (Plain (answering own h erroneous) (dataOf [])) ∷ []) out
+        → o ≡ sent (errorFrame own h ∷ []) out
         → outcome 14 1 store w o
         ≡ carriedOut own h (Join a number total b) store work out
-    unfolding joinedAt joined areaAfter errorFrame
+    unfolding joinedAt joined areaAfter
     lost-outcome t w o c s = rw (cleared w c, s) (joined-as lost (simp (in-order true t)))
 
     module _ (t : astray 4 (load at work) (record { id = a .id; total = total; number = number; bytes = [] }) ≡ false) where
       pub done-outcome : last 4 (pieceOf (a .id) number total b) ≡ true
           → (x w o : List ℕ) → x ≡ put store (a .offset) (joinedBytes a number b work)
           → w ≡ cond (ltb at (length work)) (put work at (0 ∷ [])) work
-          → o ≡ sent (imageOf (Plain (answering own h successful) (dataOf [])) ∷ []) out
+          → o ≡ sent (successFrame own h ∷ []) out
           → outcome 0 1 x w o
           ≡ carriedOut own h (Join a number total b) store work out
-      unfolding joinedAt joined areaAfter successFrame
+      unfolding joinedAt joined areaAfter
       done-outcome l x w o p c s =
           let held = held-part (base (a .object)) number work (omega (arith, r .shaped .inside, r .shaped .room)) in
           rw (p, cleared w c, s)
@@ -111,21 +111,21 @@ module _ (own : ℕ) (h : Header) (store work out : List ℕ) where
   unfolding perform replyTo
   quiet-outcome n = ap (outcome n 0 store work) (sym (put-nothing out))
 
-  pub error-outcome : (n object : ℕ) (o : List ℕ) → o ≡ sent (imageOf (Plain (answering own h erroneous) (dataOf [])) ∷ []) out
-      → outcome n 1 store work o ≡ carriedOut own h (Error n object) store work out
-  unfolding perform replyTo errorFrame
-  error-outcome n object o s = rw s
+  pub error-outcome : (number object : ℕ) (o : List ℕ) → o ≡ sent (errorFrame own h ∷ []) out
+      → outcome number 1 store work o ≡ carriedOut own h (Error number object) store work out
+  unfolding perform replyTo
+  error-outcome number object o s = rw s
 
-  pub read-outcome : (a : Attribute) (part o : List ℕ) (count : ℕ) → part ≡ partOf a store
-      → count ≡ length (readFrames own h part) → o ≡ sent (readFrames own h part) out
+  pub read-outcome : (a : Attribute) (count : ℕ) (o : List ℕ) → count ≡ length (readFrames own h (partOf a store))
+      → o ≡ sent (readFrames own h (partOf a store)) out
       → outcome 0 count store work o ≡ carriedOut own h (Read a) store work out
   unfolding perform replyTo
-  read-outcome a part o count e k s = rw (k, s, e)
+  read-outcome a count o k s = rw (k, s)
 
   pub write-outcome : (a : Attribute) (b : Data) (x o : List ℕ) → x ≡ put store (a .offset) (bytesOf b)
-      → o ≡ sent (imageOf (Plain (answering own h successful) (dataOf [])) ∷ []) out
+      → o ≡ sent (successFrame own h ∷ []) out
       → outcome 0 1 x work o ≡ carriedOut own h (Write a b) store work out
-  unfolding perform replyTo successFrame
+  unfolding perform replyTo
   write-outcome a b x o e s = rw (e, s)
 
 -- ---- a call

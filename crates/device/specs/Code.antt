@@ -1,85 +1,20 @@
--- What the device's functions say of themselves: the checks in the groups in which the code decides them, and what a plan needs to be carried out.
-use Prim.Native.Nat.{ℕ, _+_, _-_, _*_, _≤_, min}
+-- What the device's functions say of themselves: what a plan needs to be carried out, and what it leaves of a call.
+use Prim.Native.Nat.{ℕ, _+_, _*_, _≤_}
 use mathlib.Core.Path.{_≡_}
-use mathlib.Core.Bool.{Bool, true, false, cond, not, _||_}
-use mathlib.Core.List.{List, [], _∷_, _++_}
-use lib.ListN.{length, take, drop}
-use lib.Dec.{eqb, ltb}
-use Rattle.laws.specs.Checks.{Check, firstOf}
+use mathlib.Core.List.{List, _++_}
+use lib.ListN.{take, drop}
 use Rattle.codec.specs.declared.Header.{Header}
 use Rattle.codec.specs.declared.Data.{Data}
-use Rattle.codec.specs.declared.Message.{Message}
-use Rattle.codec.specs.declared.Message.the-variants.{Short, Plain, Fragment}
-use Rattle.codec.specs.Fields.{headerOf}
-use Rattle.codec.specs.Reading.{barred, messageOf}
 use Rattle.codec.specs.Writing.{bytesOf}
 use Rattle.table.specs.declared.Attribute.{Attribute}
-use Rattle.table.specs.declared.Found.{Found}
-use Rattle.table.specs.declared.Found.the-variants.{At, Nothing}
 use Rattle.table.specs.Table.{endOf}
 use Rattle.join.specs.Work.{base}
 use Rattle.join.specs.History.{Shaped}
-use Rattle.device.specs.declared.Plan.{Plan}
-use Rattle.device.specs.declared.Plan.the-variants.{Quiet, Error, Read, Write, Join}
-use Rattle.device.specs.Checks.{Setting, misfit, illFormed, notForUs, noService, notRequest, actionOrEvent, badShape, unknown, noAccess, lengthAsked, wrongLength, wrongPiece, highNumber, pieceOf, soughtIn}
-use Rattle.device.specs.Step.{served, refused, Areas, perform, replyTo, Outcome, outcomeOf}
-
--- whether a message is in long form
-abbrev pub isLong : Message → Bool
-isLong (Short dir address service) = false
-isLong (Plain u b) = true
-isLong (Fragment u number total b) = true
-
--- checks 1 and 2, of the call
-abbrev pub callChecks : Setting → List ℕ → List Check
-callChecks s r = (misfit s r, 1) ∷ (illFormed s, 2) ∷ []
-
--- checks 3 to 8, of the header: those that put no frame, and those that do
-abbrev pub quietChecks : ℕ → Header → List Check
-quietChecks own h = (barred h, 3) ∷ (notForUs own h, 4) ∷ (noService h, 5) ∷ (notRequest h, 6) ∷ []
-
-abbrev pub shapeChecks : Header → List Check
-shapeChecks h = (actionOrEvent h, 7) ∷ (badShape h, 8) ∷ []
-
--- checks 9 to 13, of the attribute and the message
-abbrev pub attributeChecks : Header → Message → Found → List Check
-attributeChecks h m found =
-    (unknown found, 9) ∷ (noAccess h found, 10) ∷ (wrongLength h m found, 11) ∷ (wrongPiece m, 12) ∷ (highNumber m, 13) ∷ []
-
--- of a Write, checks 11 to 13, and of a fragment 12 and 13
-abbrev pub pieceChecks : ℕ → ℕ → Data → List Check
-pieceChecks number total b =
-    (not (ltb (4 * number) total) || not (eqb (b .len) (min 4 (total - 4 * number))), 12) ∷ (ltb 63 number, 13) ∷ []
-
-abbrev pub bodyChecks : Attribute → Message → List Check
-bodyChecks a m = (not (eqb (lengthAsked m) (a .len)), 11) ∷ (wrongPiece m, 12) ∷ (highNumber m, 13) ∷ []
-
--- of a Read, checks 8 to 10: it has no data that 11 to 13 could look at
-abbrev pub readChecks : Header → Found → List Check
-readChecks h found = (badShape h, 8) ∷ (unknown found, 9) ∷ (noAccess h found, 10) ∷ []
-
-abbrev pub servedRead : Header → Found → Plan
-servedRead h Nothing = Error 9 (h .object)
-servedRead h (At a) = Read a
-
--- refused with a number, or what comes after
-abbrev pub planBy : ℕ → ℕ → Plan → Plan
-planBy n object p = cond (eqb n 0) p (refused n object)
-
--- the plan of a frame that passes checks 1 to 6
-abbrev pub requestPlan : List ℕ → List ℕ → Plan
-requestPlan table r =
-    planBy (firstOf (shapeChecks (headerOf r))) (headerOf r .object)
-    (planBy (firstOf (attributeChecks (headerOf r) (messageOf r) (soughtIn table (headerOf r)))) (headerOf r .object)
-    (served (headerOf r) (messageOf r) (soughtIn table (headerOf r))))
-
--- what the answers of a plan need: an address and a service that a frame carries, and room for 64 frames
-pub record Answerable (own : ℕ) (h : Header) (out : ℕ) : Type 0 where
-  pub address : own ≤ 125
-  pub named : 4 ≤ h .service
-  pub service : h .service ≤ 7
-  pub object : h .object ≤ 31
-  pub room : 640 ≤ out
+use Rattle.guest.specs.declared.Plan.{Plan}
+use Rattle.guest.specs.declared.Plan.the-variants.{Quiet, Error, Read, Write, Join}
+use Rattle.guest.specs.Checks.{pieceOf}
+use Rattle.guest.specs.Step.{Areas, perform, replyTo, Outcome, outcomeOf}
+use Rattle.answers.specs.Code.{Answerable}
 
 pub record WriteReady (a : Attribute) (b : Data) (store : ℕ) : Type 0 where
   pub inside : endOf a ≤ store

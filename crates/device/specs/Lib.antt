@@ -1,6 +1,1 @@
-pub mod Checks
-pub mod Step
-pub mod Belongs
-pub mod History
-pub mod Frames
 pub mod Code

@@ -1,20 +1,47 @@
 // What a plan does: all that alters the lent areas.
 ghost use mathlib.Core.Path.{_≡_};
 ghost use mathlib.Core.Bool.{true};
+ghost use mathlib.Core.List.{[], _∷_};
+ghost use Prim.Native.Nat.{_≤_};
 ghost use lib.ListN.{length};
 ghost use Rattle.laws.specs.Put.{put};
 ghost use Rattle.codec.specs.Writing.{bytesOf};
+ghost use Rattle.table.specs.Table.{partOf};
 ghost use Rattle.join.specs.Work.{kept, base, last, areaAfter};
-ghost use Rattle.device.specs.Checks.{pieceOf};
-ghost use Rattle.device.specs.Code.{Answerable, WriteReady, KeepReady, JoinReady, Ready, joinedBytes, outcome, carriedOut};
-use crate::Plan;
+ghost use Rattle.guest.specs.Checks.{pieceOf};
+ghost use Rattle.guest.specs.Step.{errorFrame, successFrame, readFrames, sent};
+ghost use Rattle.answers.specs.Code.{Answerable};
+ghost use Rattle.device.specs.Code.{WriteReady, KeepReady, JoinReady, Ready, joinedBytes, outcome, carriedOut};
 use crate::Reply;
-use crate::answering::send_bare;
-use crate::answering::send_part;
-use crate::sizes::wide;
 use codec::Data;
 use codec::Header;
+use guest::Plan;
 use table::Attribute;
+
+// One error frame.
+fn refuse(own: u8, h: Header, out: &mut [u8])
+    requires { ⌜ Answerable own h (length (now out)) ⌝ }
+    ensures { λ _. ⌜ now (out .exit) ≡ sent (errorFrame own h ∷ []) (now (out .entry)) ⌝ }
+{
+    answers::send_bare(own, h, 2, out);
+}
+
+// One Successful frame with no data.
+fn acknowledge(own: u8, h: Header, out: &mut [u8])
+    requires { ⌜ Answerable own h (length (now out)) ⌝ }
+    ensures { λ _. ⌜ now (out .exit) ≡ sent (successFrame own h ∷ []) (now (out .entry)) ⌝ }
+{
+    answers::send_bare(own, h, 1, out);
+}
+
+// The frames of a Read, cut from the attribute's part of the store; how many they are.
+fn show(own: u8, h: Header, a: Attribute, store: &[u8], out: &mut [u8]) -> u8
+    requires { ⌜ Answerable own h (length (now out)) × (a .len ≤ 255) ⌝ }
+    ensures { λ r. ⌜ (r ≡ length (readFrames own h (partOf a (now (store .entry)))))
+        × (now (out .exit) ≡ sent (readFrames own h (partOf a (now (store .entry)))) (now (out .entry))) ⌝ }
+{
+    answers::send_part(own, h, table::part(a, store), out)
+}
 
 // A whole Write: the store's middle part at offset and length is lent to the copying routine.
 fn store_data(to: Attribute, body: Data, store: &mut [u8])
@@ -22,7 +49,7 @@ fn store_data(to: Attribute, body: Data, store: &mut [u8])
     ensures { λ _. ⌜ now (store .exit) ≡ put (now (store .entry)) (to .offset) (bytesOf body) ⌝ }
 {
     let places = codec::places_of(body);
-    let n = wide(body.len);
+    let n = body.len as usize;
     let at = to.offset as usize;
     let end = at + n;
     bytes::copy(&places[0..n], &mut store[at..end]);
@@ -34,9 +61,9 @@ fn store_joined(to: Attribute, number: u8, total: u8, body: Data, work: &[u8], s
     ensures { λ _. ⌜ now (store .exit) ≡ put (now (store .entry)) (to .offset) (joinedBytes to number body (now (work .entry))) ⌝ }
 {
     let places = codec::places_of(body);
-    let n = wide(body.len);
+    let n = body.len as usize;
     let start = to.offset as usize;
-    let end = start + wide(to.len);
+    let end = start + to.len as usize;
     join::join_into(
         work,
         join::place_of(to.object),
@@ -52,7 +79,7 @@ fn keep_piece(to: Attribute, number: u8, total: u8, body: Data, work: &mut [u8])
     ensures { λ _. ⌜ now (work .exit) ≡ areaAfter 4 (base (to .object)) (pieceOf (to .id) number total body) kept (now (work .entry)) ⌝ }
 {
     let places = codec::places_of(body);
-    let n = wide(body.len);
+    let n = body.len as usize;
     join::keep(
         work,
         join::place_of(to.object),
@@ -82,7 +109,7 @@ fn apply_join(
     let at = join::place_of(to.object);
     if join::is_astray(work, at, to.id, total, number) {
         join::clear(work, at);
-        send_bare(own, h, 2, out);
+        refuse(own, h, out);
         return Reply {
             number: 14,
             count: 1,
@@ -91,7 +118,7 @@ fn apply_join(
     if join::is_last(total, number) {
         store_joined(to, number, total, body, work, store);
         join::clear(work, at);
-        send_bare(own, h, 1, out);
+        acknowledge(own, h, out);
         return Reply {
             number: 0,
             count: 1,
@@ -120,16 +147,16 @@ pub(crate) fn apply(
     match plan {
         Plan::Quiet(number) => Reply { number, count: 0 },
         Plan::Error { number, object: _ } => {
-            send_bare(own, h, 2, out);
+            refuse(own, h, out);
             Reply { number, count: 1 }
         }
         Plan::Read(a) => {
-            let count = send_part(own, h, table::part(a, store), out);
+            let count = show(own, h, a, store, out);
             Reply { number: 0, count }
         }
         Plan::Write { to, body } => {
             store_data(to, body, store);
-            send_bare(own, h, 1, out);
+            acknowledge(own, h, out);
             Reply {
                 number: 0,
                 count: 1,

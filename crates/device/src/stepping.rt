@@ -1,12 +1,9 @@
 // One call: checks 1 to 6 put no frame and are answered at once; what else is asked for is a plan, which is carried out.
 ghost use mathlib.Core.Path.{_≡_};
-ghost use Rattle.device.specs.Step.{stepOf};
+ghost use Rattle.guest.specs.Step.{stepOf};
 ghost use Rattle.device.specs.Code.{outcome};
 use crate::Reply;
 use crate::applying::apply;
-use crate::frame_checks::misfit;
-use crate::frame_checks::quiet_number;
-use crate::judging::request_plan;
 
 // What 01 says of one frame, for every input of any length. Own address is 32 bits wide, so that 265 is refused and not taken for 9.
 pub fn step(
@@ -20,7 +17,7 @@ pub fn step(
     ensures { λ r. ⌜ outcome (r .number) (r .count) (now (store .exit)) (now (work .exit)) (now (out .exit))
         ≡ stepOf (now (frame .entry)) own (now (table .entry)) (now (store .entry)) (now (work .entry)) (now (out .entry)) ⌝ }
 {
-    if misfit(frame, own, table, store.len(), work.len(), out.len()) {
+    if judge::misfit(frame, own, table, store.len(), work.len(), out.len()) {
         return Reply {
             number: 1,
             count: 0,
@@ -34,13 +31,13 @@ pub fn step(
         };
     }
     let h = codec::header_of(frame);
-    let n = quiet_number(h, own);
+    let n = judge::route_number(h, own);
     if n != 0 {
         return Reply {
             number: n,
             count: 0,
         };
     }
-    let plan = request_plan(frame, h, table);
+    let plan = judge::request_plan(frame, h, table);
     apply(plan, own as u8, h, store, work, out)
 }

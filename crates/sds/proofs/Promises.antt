@@ -22,8 +22,8 @@ use Rattle.codec.specs.Reading.{headerChecks, readChecks, dataOf, messageOf, re
 use Rattle.codec.specs.Writing.{carried, imageOf, clearedOf}
 use Rattle.codec.proofs.Trips.{written-read, read-written, read-is-carried}
 use Rattle.codec.proofs.Promises as codec
-use Rattle.device.specs.Checks.{setting}
-use Rattle.device.specs.Code.{callChecks}
+use Rattle.guest.specs.Checks.{setting}
+use Rattle.judge.specs.Code.{callChecks}
 use Rattle.sds.specs.Border.{messageSize, longBytes, messageBytes, subjectAt, dataAt, messageAt, bordered, missized, answeredIn, borderReadNumber, borderRead, borderWriteChecks, borderWriteNumber, borderWrite, tableChecks}
 use Rattle.sds.proofs.Places.{bordered-back}
 

@@ -16,7 +16,7 @@ use Rattle.codec.specs.Reading.{dataOf, readOf, numberOf}
 use Rattle.codec.specs.Writing.{placesOf, carried, imageOf}
 use Rattle.table.specs.Descriptor.{descriptorSize}
 use Rattle.table.specs.Table.{entrySize, wellFormed}
-use Rattle.device.specs.Step.{Outcome}
+use Rattle.guest.specs.Step.{Outcome}
 
 -- "a message at this border is 16 bytes"
 abbrev pub messageSize : ℕ

@@ -5,7 +5,7 @@ mod messages;
 ghost use mathlib.Core.Path.{_≡_};
 ghost use Rattle.laws.specs.Checks.{firstOf};
 ghost use Rattle.sds.specs.Border.{borderReadNumber, borderRead, borderWriteNumber, borderWrite, borderSize, tableChecks, stepped, borderStep};
-ghost use Rattle.device.specs.Step.{stepOf};
+ghost use Rattle.guest.specs.Step.{stepOf};
 use messages::MESSAGE;
 use messages::bordered;
 use messages::message_at;

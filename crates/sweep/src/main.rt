@@ -21,7 +21,6 @@
 //   rule refuses. b5 lies beyond a len of 5, where a frame carries nothing: only 0 is written, 1 and 255.
 // A record of 9 or 11 bytes: refused with 1 (01). Each refusal leaves the record as it was.
 mod counting;
-mod message;
 mod reading;
 mod writing;
 

@@ -1,160 +1,69 @@
 // The reader's side: what is read, what is written back, what is refused.
-ghost use Prim.Native.Nat.{_≤_};
-use crate::counting::more;
-use crate::counting::print_count;
-use crate::counting::print_text;
+use crate::counting::Counts;
+use crate::counting::NONE;
+use crate::counting::counted;
+use crate::counting::print_line;
 use codec::Answer;
-use codec::Message;
 
-struct Counts {
-    read: u64,
-    back: u64,
-    one: u64,
-    three: u64,
-    five: u64,
-    eight: u64,
-    other: u64,
-}
-
-fn none() -> Counts {
-    Counts {
-        read: 0,
-        back: 0,
-        one: 0,
-        three: 0,
-        five: 0,
-        eight: 0,
-        other: 0,
-    }
-}
-
-fn refused(mut c: Counts, n: u8) -> Counts {
-    match n {
-        1 => c.one = more(c.one),
-        3 => c.three = more(c.three),
-        5 => c.five = more(c.five),
-        8 => c.eight = more(c.eight),
-        _ => c.other = more(c.other),
-    }
-    c
-}
-
-fn got(mut c: Counts, back: bool) -> Counts {
-    c.read = more(c.read);
-    if back {
-        c.back = more(c.back);
-    }
-    c
-}
-
-// The record with each byte beyond its DLC cleared. The DLC is taken from byte 1 here, so that the codec does not judge itself.
-fn cleared(frame: [u8; 10]) -> [u8; 10] {
-    let end = (frame[1] % 16) as usize + 2;
-    let mut out = frame;
-    for i in 2..10 {
-        if end <= i {
-            out[i] = 0;
-        }
-    }
-    out
-}
-
-// Whether writing the message into a record of FF bytes gives the wanted ones.
-fn written_back(m: Message, wanted: &[u8]) -> bool {
-    let mut again = [0xFF_u8; 10];
-    if codec::write(m, &mut again) != 0 {
+// Whether a record came back with each byte beyond its DLC cleared. The DLC is taken from byte 1 here, so that the codec does not judge itself.
+fn is_back(frame: &[u8], again: [u8; 10]) -> bool {
+    if frame.len() != 10 {
         return false;
     }
-    check::same(&again, wanted)
+    let end = (frame[1] % 16) as usize + 2;
+    for i in 0..10 {
+        let wanted = if i < end { frame[i] } else { 0 };
+        if again[i] != wanted {
+            return false;
+        }
+    }
+    true
 }
 
-fn tally(c: Counts, frame: [u8; 10]) -> Counts {
-    let wanted = cleared(frame);
-    match codec::read(&frame) {
-        Answer::Got(m) => got(c, written_back(m, &wanted)),
-        Answer::Refused(n) => refused(c, n),
+// A message is written back into a record of FF bytes, and counts as refused if the writer refuses it.
+fn tally(frame: &[u8], c: Counts) -> Counts {
+    match codec::read(frame) {
+        Answer::Got(m) => {
+            let mut again = [0xFF; 10];
+            let number = codec::write(m, &mut again);
+            counted(c, number, is_back(frame, again))
+        }
+        Answer::Refused(n) => counted(c, n, false),
     }
 }
 
-fn joined(b0: u8, b1: u8, body: [u8; 8]) -> [u8; 10] {
-    [
-        b0,
-        b1,
-        body[0],
-        body[1],
-        body[2],
-        body[3],
-        body[4],
-        body[5],
-        body[6],
-        body[7],
-    ]
+fn print_counts(label: &[u8], c: Counts) {
+    print_line(label, b": read ", b" written back ", c);
 }
 
-fn each_second_byte(c: Counts, b0: u8, body: [u8; 8]) -> Counts {
-    let mut sum = c;
-    for b1 in 0..=255 {
-        sum = tally(sum, joined(b0, b1, body));
+// All pairs of the first two bytes before the eight of a body.
+fn each_pair(label: u8, body: [u8; 10]) {
+    let mut frame = body;
+    let mut c = NONE;
+    for pair in 0..=65535_u16 {
+        frame[0] = (pair / 256) as u8;
+        frame[1] = (pair % 256) as u8;
+        c = tally(&frame, c);
     }
-    sum
-}
-
-fn each_pair(body: [u8; 8]) -> Counts {
-    let mut sum = none();
-    for b0 in 0..=255 {
-        sum = each_second_byte(sum, b0, body);
-    }
-    sum
-}
-
-fn print_line(label: &[u8], c: Counts) {
-    print_text(label);
-    print_count(b": read ", c.read);
-    print_count(b" written back ", c.back);
-    print_count(b" refused 1: ", c.one);
-    print_count(b" 3: ", c.three);
-    print_count(b" 5: ", c.five);
-    print_count(b" 8: ", c.eight);
-    print_count(b" other: ", c.other);
-    print_text(b"\n");
+    print_counts(&[label], c);
 }
 
 pub(crate) fn print_bodies() {
     // The flag is clear, and each data byte is more than 0.
-    print_line(
-        b"a",
-        each_pair([0x03, 0x0A, 0x2C, 0x01, 0x55, 0x66, 0x77, 0x88]),
-    );
+    each_pair(b'a', *b"\0\0\x03\x0A\x2C\x01\x55\x66\x77\x88");
     // The flag is set: fragment 7 of 32 bytes.
-    print_line(
-        b"b",
-        each_pair([0x23, 0x38, 0x07, 0x20, 0x41, 0x42, 0x43, 0x44]),
-    );
+    each_pair(b'b', *b"\0\0\x23\x38\x07\x20\x41\x42\x43\x44");
     // The flag is set, and each other field is at its most: Request/Response 3, object 31.
-    print_line(b"c", each_pair([0xFF; 8]));
-    print_line(b"d", each_pair([0; 8]));
+    each_pair(b'c', [0xFF; 10]);
+    each_pair(b'd', [0; 10]);
 }
 
 // The first n of twenty bytes. They begin with a record that is read, 01's P1, and it stands there twice.
-fn tally_front(c: Counts, n: usize) -> Counts
-    requires { ⌜ n ≤ 20 ⌝ }
-{
-    let bytes = *b"\x09\x84\x03\x0A\x2C\x01\0\0\0\0\x09\x84\x03\x0A\x2C\x01\0\0\0\0";
-    let frame = &bytes[..n];
-    match codec::read(frame) {
-        Answer::Got(m) => got(c, written_back(m, frame)),
-        Answer::Refused(n) => refused(c, n),
-    }
-}
-
-fn each_length() -> Counts {
-    let mut sum = none();
-    for n in 0..=20 {
-        sum = tally_front(sum, n);
-    }
-    sum
-}
-
 pub(crate) fn print_lengths() {
-    print_line(b"lengths 0 to 20", each_length());
+    let bytes = *b"\x09\x84\x03\x0A\x2C\x01\0\0\0\0\x09\x84\x03\x0A\x2C\x01\0\0\0\0";
+    let mut c = NONE;
+    for n in 0..=20 {
+        c = tally(&bytes[..n], c);
+    }
+    print_counts(b"lengths 0 to 20", c);
 }

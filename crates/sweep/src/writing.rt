@@ -1,101 +1,157 @@
-// The writer's side: what is written, what is refused, and whether a refusal leaves the record as it was.
+// The writer's side: messages that are fine but for one field, which is swept; what is written, what is refused, and whether a refusal leaves the record
+// as it was.
 ghost use Prim.Native.Nat.{_≤_};
-use crate::counting::more;
-use crate::counting::print_count;
-use crate::counting::print_text;
-use crate::message::Field;
-use crate::message::with;
+use crate::counting::Counts;
+use crate::counting::NONE;
+use crate::counting::counted;
+use crate::counting::print_line;
+use codec::Data;
 use codec::Message;
+use codec::Subject;
 
-struct Counts {
-    written: u64,
-    one: u64,
-    three: u64,
-    other: u64,
-    untouched: u64,
-}
+// Kind (0 short, 1 plain, else a fragment), Dir/Pri, address, service, response, object, ID, fragment number, total, data length and six data bytes.
+struct Fields(
+    u8,
+    u8,
+    u8,
+    u8,
+    u8,
+    u8,
+    u8,
+    u8,
+    u8,
+    u8,
+    u8,
+    u8,
+    u8,
+    u8,
+    u8,
+    u8,
+);
 
-fn none() -> Counts {
-    Counts {
-        written: 0,
-        one: 0,
-        three: 0,
-        other: 0,
-        untouched: 0,
+// A fine message by its letter: a Successful Read from address 9, of object 2 and ID 56, or a fragment of a Write to it.
+fn fine(letter: u8) -> Fields {
+    match letter {
+        b'S' => Fields(0, 1, 9, 5, 0, 0, 0, 0, 0, 0, 0, 0, 0, 0, 0, 0),
+        b'P' => Fields(1, 1, 9, 5, 1, 2, 56, 0, 0, 6, 1, 2, 3, 4, 5, 6),
+        b'p' => Fields(1, 1, 9, 5, 1, 2, 56, 0, 0, 5, 1, 2, 3, 4, 5, 0),
+        b'0' => Fields(1, 1, 9, 5, 1, 2, 56, 0, 0, 0, 0, 0, 0, 0, 0, 0),
+        b'F' => Fields(2, 0, 9, 4, 0, 2, 56, 7, 32, 4, 1, 2, 3, 4, 0, 0),
+        _ => Fields(2, 0, 9, 4, 0, 2, 56, 7, 32, 0, 0, 0, 0, 0, 0, 0),
     }
 }
 
-fn written(mut c: Counts) -> Counts {
-    c.written = more(c.written);
-    c
+// What is swept: the letter of a fine message, the digit of a field's place, and a label.
+const SWEPT: [u8; 190] = *b"\
+    P1dir (long)\n\
+    S1dir (short)\n\
+    P2address (long)\n\
+    S2address (short)\n\
+    P3service (long)\n\
+    S3service (short)\n\
+    P4response\n\
+    P5object\n\
+    P6id\n\
+    F7number\n\
+    F8total\n\
+    09len (plain)\n\
+    f9len (fragment)\n\
+    pFb5 (plain, len 5)\n";
+
+// The message with x in the field whose place has a hexadecimal digit.
+fn with(f: Fields, digit: u8, x: u8) -> Fields {
+    let mut g = f;
+    match digit {
+        b'1' => g.1 = x,
+        b'2' => g.2 = x,
+        b'3' => g.3 = x,
+        b'4' => g.4 = x,
+        b'5' => g.5 = x,
+        b'6' => g.6 = x,
+        b'7' => g.7 = x,
+        b'8' => g.8 = x,
+        b'9' => g.9 = x,
+        _ => g.15 = x,
+    }
+    g
 }
 
-fn refused(mut c: Counts, n: u8) -> Counts {
-    match n {
-        1 => c.one = more(c.one),
-        3 => c.three = more(c.three),
-        _ => c.other = more(c.other),
+fn message(f: Fields) -> Message {
+    let about = Subject {
+        dir: f.1,
+        address: f.2,
+        service: f.3,
+        response: f.4,
+        object: f.5,
+        id: f.6,
+    };
+    let body = Data {
+        len: f.9,
+        b0: f.10,
+        b1: f.11,
+        b2: f.12,
+        b3: f.13,
+        b4: f.14,
+        b5: f.15,
+    };
+    let kind = f.0;
+    match kind {
+        0 => Message::Short {
+            dir: f.1,
+            address: f.2,
+            service: f.3,
+        },
+        1 => Message::Plain { about, body },
+        _ => Message::Fragment {
+            about,
+            number: f.7,
+            total: f.8,
+            body,
+        },
     }
-    c
-}
-
-fn untouched(mut c: Counts, same: bool) -> Counts {
-    if same {
-        c.untouched = more(c.untouched);
-    }
-    c
 }
 
 // Writes into the first n bytes of eleven. A refusal has to leave all of them.
-fn attempt(c: Counts, m: Message, n: usize) -> Counts
+fn attempt(f: Fields, n: usize, c: Counts) -> Counts
     requires { ⌜ n ≤ 11 ⌝ }
 {
     let before = *b"ABCDEFGHIJK";
     let mut bytes = before;
-    let answer = codec::write(m, &mut bytes[..n]);
-    if answer == 0 {
-        return written(c);
+    let number = codec::write(message(f), &mut bytes[..n]);
+    counted(c, number, check::same(&bytes, &before))
+}
+
+fn print_counts(label: &[u8], c: Counts) {
+    print_line(label, b": written ", b" left as it was ", c);
+}
+
+fn each_value(row: &[u8]) {
+    if row.len() < 2 {
+        return;
     }
-    untouched(refused(c, answer), check::same(&bytes, &before))
-}
-
-fn print_line(label: &[u8], c: Counts) {
-    print_text(label);
-    print_count(b": written ", c.written);
-    print_count(b" refused 1: ", c.one);
-    print_count(b" 3: ", c.three);
-    print_count(b" other: ", c.other);
-    print_count(b" untouched ", c.untouched);
-    print_text(b"\n");
-}
-
-fn each_value(field: Field) -> Counts {
-    let mut sum = none();
+    let digit = row[1];
+    let message = fine(row[0]);
+    let mut c = NONE;
     for x in 0..=255 {
-        sum = attempt(sum, with(field, x), 10);
+        c = attempt(with(message, digit, x), 10, c);
     }
-    sum
+    print_counts(&row[2..], c);
 }
 
 pub(crate) fn print_fields() {
-    print_line(b"dir (long)", each_value(Field::Dir));
-    print_line(b"dir (short)", each_value(Field::ShortDir));
-    print_line(b"address (long)", each_value(Field::Address));
-    print_line(b"address (short)", each_value(Field::ShortAddress));
-    print_line(b"service (long)", each_value(Field::Service));
-    print_line(b"service (short)", each_value(Field::ShortService));
-    print_line(b"response", each_value(Field::Response));
-    print_line(b"object", each_value(Field::Object));
-    print_line(b"id", each_value(Field::Id));
-    print_line(b"number", each_value(Field::Number));
-    print_line(b"total", each_value(Field::Total));
-    print_line(b"len (plain)", each_value(Field::Len));
-    print_line(b"len (fragment)", each_value(Field::FragmentLen));
-    print_line(b"b5 (plain, len 5)", each_value(Field::LastPlace));
+    let text = SWEPT;
+    let rows = &text[..];
+    let mut start = 0;
+    for i in 0..rows.len() {
+        if rows[i] == b'\n' {
+            each_value(&rows[start..i]);
+            start = i + 1;
+        }
+    }
 }
 
 pub(crate) fn print_lengths() {
-    let fine = with(Field::Id, 56);
-    let nine = attempt(none(), fine, 9);
-    print_line(b"records of 9 and 11 bytes", attempt(nine, fine, 11));
+    let nine = attempt(fine(b'P'), 9, NONE);
+    let eleven = attempt(fine(b'P'), 11, nine);
+    print_counts(b"records of 9 and 11 bytes", eleven);
 }

@@ -1,183 +1,33 @@
-// The worked examples of 000, section 5, in the paper's order, as records of ten bytes.
-// The bits are the paper's, with a `_` where a field ends: Dir/Pri and address; service type, RTR and DLC; R/R,FI and EOID. A byte that is one field
-// stands in two groups of four, as the paper has it; data is in hexadecimal.
-// A label with a `*` marks an example whose row of values contradicts its own description: what is run is the description.
+// The worked examples of 000, section 5, in the paper's order: 5.1 the short form; 5.2.1 and 5.2.2 Read and Write; 5.2.3 and 5.2.4 Connection and Channel,
+// which the codec does not read (01, "Frame record"); 5.3.1 "GATE SENSOR" and 5.3.2 "SDS  SENSOR", with the two blanks that the paper has.
+// A label of eight bytes, then the ten bytes of the record. A label with a `*` marks an example whose row of values contradicts its own description: what
+// is run is the description (docs/DECISIONS.md has the table).
 
-pub(crate) const COUNT: u8 = 21;
+pub(crate) const COUNT: usize = 21;
 
-pub(crate) struct Example {
-    pub(crate) label: [u8; 8],
-    pub(crate) frame: [u8; 10],
-}
+pub(crate) const LABEL: usize = 8;
 
-fn labelled(label: [u8; 8], head: [u8; 4], rest: [u8; 6]) -> Example {
-    let frame = [
-        head[0],
-        head[1],
-        head[2],
-        head[3],
-        rest[0],
-        rest[1],
-        rest[2],
-        rest[3],
-        rest[4],
-        rest[5],
-    ];
-    Example { label, frame }
-}
+pub(crate) const ROW: usize = 18;
 
-// 5.1: Change of State and Write ON.
-fn short_form(i: u8) -> Example {
-    match i {
-        0 => labelled(
-            *b"5.1.1   ",
-            [0b1_0011001, 0b000_0_0000, 0, 0],
-            [0, 0, 0, 0, 0, 0],
-        ),
-        1 => labelled(
-            *b"5.1.2   ",
-            [0b0_0011001, 0b010_0_0000, 0, 0],
-            [0, 0, 0, 0, 0, 0],
-        ),
-        2 => labelled(
-            *b"5.1.3   ",
-            [0b0_0100100, 0b101_0_0000, 0, 0],
-            [0, 0, 0, 0, 0, 0],
-        ),
-        _ => labelled(
-            *b"5.1.4   ",
-            [0b1_0100100, 0b111_0_0000, 0, 0],
-            [0, 0, 0, 0, 0, 0],
-        ),
-    }
-}
-
-// 5.2.1 and 5.2.2.
-fn read_and_write(i: u8) -> Example {
-    match i {
-        4 => labelled(
-            *b"5.2.1.1 ",
-            [0b0_0010000, 0b101_0_0010, 0b000_00000, 0b0000_1000],
-            [0, 0, 0, 0, 0, 0],
-        ),
-        5 => labelled(
-            *b"5.2.1.2 ",
-            [0b1_0010000, 0b101_0_0011, 0b010_00000, 0b0000_1000],
-            [0x03, 0, 0, 0, 0, 0],
-        ),
-        6 => labelled(
-            *b"5.2.2.1 ",
-            [0b0_1001100, 0b100_0_0011, 0b000_00011, 0b0000_1100],
-            [0x0F, 0, 0, 0, 0, 0],
-        ),
-        _ => labelled(
-            *b"5.2.2.2 ",
-            [0b1_1001100, 0b100_0_0010, 0b010_00011, 0b0000_1100],
-            [0, 0, 0, 0, 0, 0],
-        ),
-    }
-}
-
-// 5.2.3 and 5.2.4: services 1 and 0, which the codec does not read (01, "Frame record").
-fn connection_and_channel(i: u8) -> Example {
-    match i {
-        8 => labelled(
-            *b"5.2.3.1 ",
-            [0b1_0000110, 0b001_0_0010, 0b000_00000, 0b0011_1101],
-            [0, 0, 0, 0, 0, 0],
-        ),
-        9 => labelled(
-            *b"5.2.3.2 ",
-            [0b1_0111101, 0b001_0_0010, 0b010_00000, 0b0000_0110],
-            [0, 0, 0, 0, 0, 0],
-        ),
-        10 => labelled(
-            *b"5.2.4.1 ",
-            [0b0_0010001, 0b000_0_0011, 0b000_10110, 0b0011_1000],
-            [0x55, 0, 0, 0, 0, 0],
-        ),
-        // The values have address 76 and attribute 116, the description 46 and 118.
-        11 => labelled(
-            *b"5.2.4.2*",
-            [0b1_0101110, 0b000_0_0100, 0b000_00001, 0b1001_0011],
-            [0b0111_0110, 0x01, 0, 0, 0, 0],
-        ),
-        // The values have attribute 116, the description 118; both have DLC 4, of which three bytes are printed.
-        _ => labelled(
-            *b"5.2.4.3*",
-            [0b1_0010110, 0b000_0_0011, 0b010_10000, 0b1001_0011],
-            [0b0111_0110, 0, 0, 0, 0, 0],
-        ),
-    }
-}
-
-// 5.3.1: "GATE SENSOR".
-fn fragmented_read(i: u8) -> Example {
-    match i {
-        13 => labelled(
-            *b"5.3.1.1 ",
-            [0b0_0100000, 0b101_0_0010, 0b000_00000, 0b0011_1000],
-            [0, 0, 0, 0, 0, 0],
-        ),
-        14 => labelled(
-            *b"5.3.1.2 ",
-            [0b1_0100000, 0b101_0_1000, 0b011_00000, 0b0011_1000],
-            [0b0000_0000, 0b0000_1011, 0x47, 0x41, 0x54, 0x45],
-        ),
-        15 => labelled(
-            *b"5.3.1.3 ",
-            [0b1_0100000, 0b101_0_1000, 0b011_00000, 0b0011_1000],
-            [0b0000_0001, 0b0000_1011, 0x20, 0x53, 0x45, 0x4E],
-        ),
-        _ => labelled(
-            *b"5.3.1.4 ",
-            [0b1_0100000, 0b101_0_0111, 0b011_00000, 0b0011_1000],
-            [0b0000_0010, 0b0000_1011, 0x53, 0x4F, 0x52, 0],
-        ),
-    }
-}
-
-// 5.3.2: "SDS  SENSOR", with the two blanks that the paper has.
-fn fragmented_write(i: u8) -> Example {
-    match i {
-        // The values have Dir/Pri 1, the description "Dir = To".
-        17 => labelled(
-            *b"5.3.2.1*",
-            [0b0_0100000, 0b100_0_1000, 0b001_00000, 0b0011_1000],
-            [0b0000_0000, 0b0000_1011, 0x53, 0x44, 0x53, 0x20],
-        ),
-        // The values have Dir/Pri 1, the description "Dir = To".
-        18 => labelled(
-            *b"5.3.2.2*",
-            [0b0_0100000, 0b100_0_1000, 0b001_00000, 0b0011_1000],
-            [0b0000_0001, 0b0000_1011, 0x20, 0x53, 0x45, 0x4E],
-        ),
-        // The values have Dir/Pri 1 and fragment number 1, the description "Dir = To" and 2.
-        19 => labelled(
-            *b"5.3.2.3*",
-            [0b0_0100000, 0b100_0_0111, 0b001_00000, 0b0011_1000],
-            [0b0000_0010, 0b0000_1011, 0x53, 0x4F, 0x52, 0],
-        ),
-        _ => labelled(
-            *b"5.3.2.4 ",
-            [0b1_0100000, 0b100_0_0010, 0b010_00000, 0b0011_1000],
-            [0, 0, 0, 0, 0, 0],
-        ),
-    }
-}
-
-pub(crate) fn at(i: u8) -> Example {
-    if i < 4 {
-        return short_form(i);
-    }
-    if i < 8 {
-        return read_and_write(i);
-    }
-    if i < 13 {
-        return connection_and_channel(i);
-    }
-    if i < 17 {
-        return fragmented_read(i);
-    }
-    fragmented_write(i)
-}
+pub(crate) const ROWS: [u8; 378] = *b"\
+    5.1.1   \x99\x00\0\0\0\0\0\0\0\0\
+    5.1.2   \x19\x40\0\0\0\0\0\0\0\0\
+    5.1.3   \x24\xA0\0\0\0\0\0\0\0\0\
+    5.1.4   \xA4\xE0\0\0\0\0\0\0\0\0\
+    5.2.1.1 \x10\xA2\x00\x08\0\0\0\0\0\0\
+    5.2.1.2 \x90\xA3\x40\x08\x03\0\0\0\0\0\
+    5.2.2.1 \x4C\x83\x03\x0C\x0F\0\0\0\0\0\
+    5.2.2.2 \xCC\x82\x43\x0C\0\0\0\0\0\0\
+    5.2.3.1 \x86\x22\x00\x3D\0\0\0\0\0\0\
+    5.2.3.2 \xBD\x22\x40\x06\0\0\0\0\0\0\
+    5.2.4.1 \x11\x03\x16\x38\x55\0\0\0\0\0\
+    5.2.4.2*\xAE\x04\x01\x93\x76\x01\0\0\0\0\
+    5.2.4.3*\x96\x03\x50\x93\x76\0\0\0\0\0\
+    5.3.1.1 \x20\xA2\x00\x38\0\0\0\0\0\0\
+    5.3.1.2 \xA0\xA8\x60\x38\x00\x0BGATE\
+    5.3.1.3 \xA0\xA8\x60\x38\x01\x0B SEN\
+    5.3.1.4 \xA0\xA7\x60\x38\x02\x0BSOR\0\
+    5.3.2.1*\x20\x88\x20\x38\x00\x0BSDS \
+    5.3.2.2*\x20\x88\x20\x38\x01\x0B SEN\
+    5.3.2.3*\x20\x87\x20\x38\x02\x0BSOR\0\
+    5.3.2.4 \xA0\x82\x40\x38\0\0\0\0\0\0";

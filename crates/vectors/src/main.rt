@@ -4,10 +4,12 @@ mod words;
 
 use codec::Answer;
 use codec::Message;
-use examples::Example;
+use examples::COUNT;
+use examples::LABEL;
+use examples::ROW;
 
 // Whether writing the message gives the record, all ten bytes of it. No example has the byte that is in each place before.
-fn written_back(m: Message, frame: &[u8; 10]) -> bool {
+fn written_back(m: Message, frame: &[u8]) -> bool {
     let mut again = [0xFF_u8; 10];
     if codec::write(m, &mut again) != 0 {
         return false;
@@ -15,7 +17,7 @@ fn written_back(m: Message, frame: &[u8; 10]) -> bool {
     check::same(&again, frame)
 }
 
-fn print_ending(m: Message, frame: &[u8; 10]) {
+fn print_ending(m: Message, frame: &[u8]) {
     if written_back(m, frame) {
         words::print_text(b"; written back\n");
     } else {
@@ -23,14 +25,12 @@ fn print_ending(m: Message, frame: &[u8; 10]) {
     }
 }
 
-fn show(e: Example) {
-    let label = e.label;
-    let frame = e.frame;
-    words::print_label(label);
-    match codec::read(&frame) {
+fn show(label: &[u8], frame: &[u8]) {
+    words::print_text(label);
+    match codec::read(frame) {
         Answer::Got(m) => {
             words::print_message(m);
-            print_ending(m, &frame);
+            print_ending(m, frame);
         }
         Answer::Refused(n) => {
             words::print_number(b" refused ", n);
@@ -40,7 +40,12 @@ fn show(e: Example) {
 }
 
 fn main() {
-    for i in 0..examples::COUNT {
-        show(examples::at(i));
+    let examples = examples::ROWS;
+    let rows = &examples[..];
+    for i in 0..COUNT {
+        let at = i * ROW;
+        let middle = at + LABEL;
+        let end = at + ROW;
+        show(&rows[at..middle], &rows[middle..end]);
     }
 }

@@ -13,18 +13,6 @@ pub(crate) fn print_number(before: &[u8], n: u8) {
     io::print_decimal(STDOUT_FILENO, n as u64);
 }
 
-// The label, without the blanks that fill it up.
-pub(crate) fn print_label(label: [u8; 8]) {
-    let mut n = 8;
-    while 0 < n {
-        if label[n - 1] != b' ' {
-            print_text(&label[..n]);
-            return;
-        }
-        n -= 1;
-    }
-}
-
 // Dir/Pri 1 means that the address is the source (000, 3.2.1.1).
 fn print_address(dir: u8, address: u8) {
     if dir == 1 {

@@ -1,20 +1,49 @@
--- The loop runs through the 21 examples.
+-- The rows that are left are in the array whole.
 use Prim.Native.Nat.{_≤_, _-_}
+use mathlib.Core.Path.{_≡_}
+use lib.ListN.{length}
 use borrow.Author.Needs.{needs}
 use Rattle.vectors.proofs.main.Statement.{statement}
 use Rattle.vectors.proofs.main.Tie as tie
 
 abbrev Inv-loop : tie.InvT-loop
-Inv-loop i₀ i = i ≤ 21
+Inv-loop rows i₀ i = (length rows ≡ 378) × (i ≤ 21)
 
 abbrev μ-loop : tie.MeasureT-loop
-μ-loop i₀ i = 21 - i
+μ-loop rows i₀ i = 21 - i
+
+slice-aggregate-rows : tie.Need-slice-aggregate-rows Inv-loop μ-loop
+slice-aggregate-rows c = search needs
 
 loop-holds : tie.Need-loop-holds Inv-loop μ-loop
 loop-holds c = search needs
 
-at-requires : tie.Need-at-requires Inv-loop μ-loop
-at-requires c κs = search needs
+mul-at : tie.Need-mul-at Inv-loop μ-loop
+mul-at c = search needs
+
+add-middle : tie.Need-add-middle Inv-loop μ-loop
+add-middle c = search needs
+
+add-end : tie.Need-add-end Inv-loop μ-loop
+add-end c = search needs
+
+sub-show : tie.Need-sub-show Inv-loop μ-loop
+sub-show c = search needs
+
+part-show-start : tie.Need-part-show-start Inv-loop μ-loop
+part-show-start c = search needs
+
+part-show-end : tie.Need-part-show-end Inv-loop μ-loop
+part-show-end c = search needs
+
+sub-show-2 : tie.Need-sub-show-2 Inv-loop μ-loop
+sub-show-2 c = search needs
+
+part-show-start-2 : tie.Need-part-show-start-2 Inv-loop μ-loop
+part-show-start-2 c = search needs
+
+part-show-end-2 : tie.Need-part-show-end-2 Inv-loop μ-loop
+part-show-end-2 c = search needs
 
 show-requires : tie.Need-show-requires Inv-loop μ-loop
 show-requires c κs = search needs
@@ -37,8 +66,17 @@ main-spec =
     (tie.spec
     Inv-loop
     μ-loop
+    slice-aggregate-rows
     loop-holds
-    at-requires
+    mul-at
+    add-middle
+    add-end
+    sub-show
+    part-show-start
+    part-show-end
+    sub-show-2
+    part-show-start-2
+    part-show-end-2
     show-requires
     add-i
     loop-less

@@ -1,9 +1,7 @@
 use mathlib.Core.Path.{subst}
-use native.Mathlib.Omega.{arith}
 use lib.ListN.{length}
-use Rattle.device.specs.declared.Plan.{Plan}
+use Rattle.guest.specs.declared.Plan.{Plan}
 use Rattle.device.specs.Code.{Ready}
-use Rattle.device.proofs.Frames.{part-most}
 use Rattle.device.proofs.Outcomes.{quiet-outcome, error-outcome, read-outcome, write-outcome}
 use borrow.Author.Needs.{needs}
 use Rattle.device.proofs.applying.apply.Statement.{statement}
@@ -15,69 +13,72 @@ enum-known-plan c = search needs
 enum-known-plan-2 : tie.Need-enum-known-plan-2
 enum-known-plan-2 c = search needs
 
-send-bare-requires : tie.Need-send-bare-requires
-send-bare-requires c κs =
-    let s = c .before .before .before .before .before .before .before in
+refuse-requires : tie.Need-refuse-requires
+refuse-requires c κs =
+    let p = c .before .before in
+    let s = p .before .before .before .before .before in
     let a = s .args in
-    let r = subst (λ (p : Plan). Ready p (a .own) (a .h) (length (a .store .now)) (length (a .work .now)) (length (a .out .now))) (c .before .before .plan2 .given .1) (s .pre) in
-    (r, omega arith)
+    let r = subst (λ (p : Plan). Ready p (a .own) (a .h) (length (a .store .now)) (length (a .work .now)) (length (a .out .now))) (p .plan2 .given .1) (s .pre) in
+    r
 
 enum-known-plan-3 : tie.Need-enum-known-plan-3
 enum-known-plan-3 c = search needs
 
-part-requires : tie.Need-part-requires
-part-requires c κs = search needs
-
-send-part-requires : tie.Need-send-part-requires
-send-part-requires c κs =
-    let s = c .before .before .before .before .before .before .before .before .before in
+show-requires : tie.Need-show-requires
+show-requires c κs =
+    let p = c .before .before .before in
+    let s = p .before .before .before .before .before in
     let a = s .args in
-    let r = subst (λ (p : Plan). Ready p (a .own) (a .h) (length (a .store .now)) (length (a .work .now)) (length (a .out .now))) (c .before .before .before .before .plan3 .given .1) (s .pre) in
-    (r .0, rw (c .before .part .ensures) (omega (arith, part-most (c .before .before .before .before .plan3 .given .0 .0) (a .store .now), r .1)))
+    let r = subst (λ (p : Plan). Ready p (a .own) (a .h) (length (a .store .now)) (length (a .work .now)) (length (a .out .now))) (p .plan3 .given .1) (s .pre) in
+    r
 
 enum-known-plan-4 : tie.Need-enum-known-plan-4
 enum-known-plan-4 c = search needs
 
 store-data-requires : tie.Need-store-data-requires
 store-data-requires c κs =
-    let s = c .before .before .before .before .before .before .before in
+    let p = c .before .before in
+    let s = p .before .before .before .before .before in
     let a = s .args in
-    let r = subst (λ (p : Plan). Ready p (a .own) (a .h) (length (a .store .now)) (length (a .work .now)) (length (a .out .now))) (c .before .before .plan4 .given .1) (s .pre) in
+    let r = subst (λ (p : Plan). Ready p (a .own) (a .h) (length (a .store .now)) (length (a .work .now)) (length (a .out .now))) (p .plan4 .given .1) (s .pre) in
     r .1
 
-send-bare-requires-2 : tie.Need-send-bare-requires-2
-send-bare-requires-2 c κs =
-    let s = c .before .before .before .before .before .before .before .before .before .before .before in
+acknowledge-requires : tie.Need-acknowledge-requires
+acknowledge-requires c κs =
+    let p = c .before .before .before .before .before .before in
+    let s = p .before .before .before .before .before in
     let a = s .args in
-    let r = subst (λ (p : Plan). Ready p (a .own) (a .h) (length (a .store .now)) (length (a .work .now)) (length (a .out .now))) (c .before .before .before .before .before .before .plan4 .given .1) (s .pre) in
-    (r .0, omega arith)
+    let r = subst (λ (p : Plan). Ready p (a .own) (a .h) (length (a .store .now)) (length (a .work .now)) (length (a .out .now))) (p .plan4 .given .1) (s .pre) in
+    r .0
 
 enum-known-plan-5 : tie.Need-enum-known-plan-5
 enum-known-plan-5 c = search needs
 
 apply-join-requires : tie.Need-apply-join-requires
 apply-join-requires c κs =
-    let s = c .before .before .before .before .before .before .before .before .before in
+    let p = c .before .before .before .before in
+    let s = p .before .before .before .before .before in
     let a = s .args in
-    let r = subst (λ (p : Plan). Ready p (a .own) (a .h) (length (a .store .now)) (length (a .work .now)) (length (a .out .now))) (c .before .before .before .before .plan5 .given .1) (s .pre) in
+    let r = subst (λ (p : Plan). Ready p (a .own) (a .h) (length (a .store .now)) (length (a .work .now)) (length (a .out .now))) (p .plan5 .given .1) (s .pre) in
     r
 
 returns : tie.Need-returns
 returns c =
-    let s = c .before .before .before .before .before .before in
-    let a = s .args in
-    rw (c .before .plan .given .1)
-    (quiet-outcome (a .own) (a .h) (a .store .now) (a .work .now) (a .out .now) _)
+    let p = c .before in
+    let a = p .before .before .before .before .before .args in
+    rw (p .plan .given .1) (quiet-outcome (a .own) (a .h) (a .store .now) (a .work .now) (a .out .now) _)
 
 same-length : tie.Need-same-length
 same-length c = search needs
 
 returns-2 : tie.Need-returns-2
 returns-2 c =
-    let s = c .before .before .before .before .before .before .before .before .before .before in
+    let w = c .before .before in
+    let p = w .before .before .before in
+    let s = p .before .before .before .before .before in
     let a = s .args in
-    rw (c .before .before .before .before .before .plan2 .given .1)
-    (error-outcome (a .own) (a .h) (a .store .now) (a .work .now) (a .out .now) _ _ _ (c .before .before .send-bare .ensures))
+    rw (p .plan2 .given .1)
+    (error-outcome (a .own) (a .h) (a .store .now) (a .work .now) (a .out .now) _ _ _ (w .refuse .ensures))
 
 same-length-2 : tie.Need-same-length-2
 same-length-2 c = search needs
@@ -87,10 +88,12 @@ same-length-3 c = search needs
 
 returns-3 : tie.Need-returns-3
 returns-3 c =
-    let s = c .before .before .before .before .before .before .before .before .before .before .before .before in
+    let w = c .before .before in
+    let p = w .before .before .before .before in
+    let s = p .before .before .before .before .before in
     let a = s .args in
-    rw (c .before .before .before .before .before .before .before .plan3 .given .1)
-    (read-outcome (a .own) (a .h) (a .store .now) (a .work .now) (a .out .now) _ _ _ _ (c .before .before .before .before .part .ensures) (c .before .before .send-part .ensures .0) (c .before .before .send-part .ensures .1))
+    rw (p .plan3 .given .1)
+    (read-outcome (a .own) (a .h) (a .store .now) (a .work .now) (a .out .now) _ _ _ (w .show .ensures .0) (w .show .ensures .1))
 
 same-length-4 : tie.Need-same-length-4
 same-length-4 c = search needs
@@ -100,10 +103,13 @@ same-length-5 c = search needs
 
 returns-4 : tie.Need-returns-4
 returns-4 c =
-    let s = c .before .before .before .before .before .before .before .before .before .before .before .before .before .before in
+    let w = c .before .before in
+    let d = w .before .before .before .before in
+    let p = d .before .before .before in
+    let s = p .before .before .before .before .before in
     let a = s .args in
-    rw (c .before .before .before .before .before .before .before .before .before .plan4 .given .1)
-    (write-outcome (a .own) (a .h) (a .store .now) (a .work .now) (a .out .now) _ _ _ _ (c .before .before .before .before .before .before .store-data .ensures) (c .before .before .send-bare2 .ensures))
+    rw (p .plan4 .given .1)
+    (write-outcome (a .own) (a .h) (a .store .now) (a .work .now) (a .out .now) _ _ _ _ (d .store-data .ensures) (w .acknowledge .ensures))
 
 same-length-6 : tie.Need-same-length-6
 same-length-6 c = search needs
@@ -116,10 +122,9 @@ same-length-8 c = search needs
 
 returns-5 : tie.Need-returns-5
 returns-5 c =
-    let s = c .before .before .before .before .before .before .before .before .before .before .before .before .before .before .before .before in
-    let a = s .args in
-    rw (c .before .before .before .before .before .before .before .before .before .before .before .plan5 .given .1)
-    (c .before .before .before .before .before .before .apply-join .ensures)
+    let w = c .before .before .before .before .before .before in
+    let p = w .before .before .before .before .before in
+    rw (p .plan5 .given .1) (w .apply-join .ensures)
 
 pub apply-spec : {M : Type 1} → statement M
 apply-spec =
@@ -127,13 +132,12 @@ apply-spec =
     (tie.spec
     enum-known-plan
     enum-known-plan-2
-    send-bare-requires
+    refuse-requires
     enum-known-plan-3
-    part-requires
-    send-part-requires
+    show-requires
     enum-known-plan-4
     store-data-requires
-    send-bare-requires-2
+    acknowledge-requires
     enum-known-plan-5
     apply-join-requires
     returns

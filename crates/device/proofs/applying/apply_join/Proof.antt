@@ -13,8 +13,8 @@ is-astray-requires c κs = search needs
 clear-requires : tie.Need-clear-requires
 clear-requires c κs = search needs
 
-send-bare-requires : tie.Need-send-bare-requires
-send-bare-requires c κs = search needs
+refuse-requires : tie.Need-refuse-requires
+refuse-requires c κs = search needs
 
 same-length : tie.Need-same-length
 same-length c = search needs
@@ -24,24 +24,31 @@ same-length-2 c = search needs
 
 returns : tie.Need-returns
 returns c =
-    let s = c .before .before .before .before .before .before .before .before .before .before .before .before .before .before .before in
+    let f = c .before .before in
+    let e = f .before .before .before .before in
+    let i = e .before .before in
+    let t = i .before in
+    let q = t .before .before in
+    let s = q .before .before .before .before in
     let a = s .args in
     lost-outcome (a .to) (a .number) (a .total) (a .body) (a .own) (a .h) (a .store .now) (a .work .now) (a .out .now) (s .pre .1 .0)
-    _ (c .before .before .before .before .before .before .before .before .before .before .before .place-of .ensures) (sym (c .before .before .before .before .before .before .before .before .before .is-astray .ensures) ∙ c .before .before .before .before .before .before .before .before .if1 .taken) _ _ (c .before .before .before .before .before .before .clear .ensures) (c .before .before .send-bare .ensures)
+    _ (q .place-of .ensures) (sym (t .is-astray .ensures) ∙ i .if1 .taken) _ _ (e .clear .ensures) (f .refuse .ensures)
 
 is-last-requires : tie.Need-is-last-requires
 is-last-requires c κs = search needs
 
 store-joined-requires : tie.Need-store-joined-requires
 store-joined-requires c κs =
-    let s = c .before .before .before .before .before .before .before .before .before .before .before in
-    (s .pre .1, sym (c .before .before .before .is-last .ensures) ∙ c .before .before .if2 .taken)
+    let i = c .before .before in
+    let l = i .before in
+    let s = l .before .before .before .before .before .before .before .before in
+    (s .pre .1, sym (l .is-last .ensures) ∙ i .if2 .taken)
 
 clear-requires-2 : tie.Need-clear-requires-2
 clear-requires-2 c κs = search needs
 
-send-bare-requires-2 : tie.Need-send-bare-requires-2
-send-bare-requires-2 c κs = search needs
+acknowledge-requires : tie.Need-acknowledge-requires
+acknowledge-requires c κs = search needs
 
 same-length-3 : tie.Need-same-length-3
 same-length-3 c = search needs
@@ -54,11 +61,19 @@ same-length-5 c = search needs
 
 returns-2 : tie.Need-returns-2
 returns-2 c =
-    let s = c .before .before .before .before .before .before .before .before .before .before .before .before .before .before .before .before .before .before .before .before .before .before in
+    let g = c .before .before in
+    let e = g .before .before .before .before in
+    let j = e .before .before .before .before in
+    let i = j .before .before .before in
+    let l = i .before in
+    let o = l .before in
+    let t = o .before in
+    let q = t .before .before in
+    let s = q .before .before .before .before in
     let a = s .args in
     done-outcome (a .to) (a .number) (a .total) (a .body) (a .own) (a .h) (a .store .now) (a .work .now) (a .out .now) (s .pre .1 .0)
-    _ (c .before .before .before .before .before .before .before .before .before .before .before .before .before .before .before .before .before .before .place-of .ensures) (sym (c .before .before .before .before .before .before .before .before .before .before .before .before .before .before .before .before .is-astray .ensures) ∙ c .before .before .before .before .before .before .before .before .before .before .before .before .before .before .before .if1 .left) (sym (c .before .before .before .before .before .before .before .before .before .before .before .before .before .before .is-last .ensures) ∙ c .before .before .before .before .before .before .before .before .before .before .before .before .before .if2 .taken)
-    _ _ _ (c .before .before .before .before .before .before .before .before .before .before .store-joined .ensures) (c .before .before .before .before .before .before .clear2 .ensures) (c .before .before .send-bare2 .ensures)
+    _ (q .place-of .ensures) (sym (t .is-astray .ensures) ∙ o .if1 .left) (sym (l .is-last .ensures) ∙ i .if2 .taken)
+    _ _ _ (j .store-joined .ensures) (e .clear2 .ensures) (g .acknowledge .ensures)
 
 keep-piece-requires : tie.Need-keep-piece-requires
 keep-piece-requires c κs = search needs
@@ -68,11 +83,17 @@ same-length-6 c = search needs
 
 returns-3 : tie.Need-returns-3
 returns-3 c =
-    let s = c .before .before .before .before .before .before .before .before .before .before .before .before .before in
+    let k = c .before .before in
+    let i = k .before .before in
+    let l = i .before in
+    let o = l .before in
+    let t = o .before in
+    let q = t .before .before in
+    let s = q .before .before .before .before in
     let a = s .args in
     kept-outcome (a .to) (a .number) (a .total) (a .body) (a .own) (a .h) (a .store .now) (a .work .now) (a .out .now) (s .pre .1 .0)
-    _ (c .before .before .before .before .before .before .before .before .before .place-of .ensures) (sym (c .before .before .before .before .before .before .before .is-astray .ensures) ∙ c .before .before .before .before .before .before .if1 .left) (sym (c .before .before .before .before .before .is-last .ensures) ∙ c .before .before .before .before .if2 .left)
-    _ (c .before .before .keep-piece .ensures)
+    _ (q .place-of .ensures) (sym (t .is-astray .ensures) ∙ o .if1 .left) (sym (l .is-last .ensures) ∙ i .if2 .left)
+    _ (k .keep-piece .ensures)
 
 pub apply-join-spec : {M : Type 1} → statement M
 apply-join-spec =
@@ -81,14 +102,14 @@ apply-join-spec =
     place-of-requires
     is-astray-requires
     clear-requires
-    send-bare-requires
+    refuse-requires
     same-length
     same-length-2
     returns
     is-last-requires
     store-joined-requires
     clear-requires-2
-    send-bare-requires-2
+    acknowledge-requires
     same-length-3
     same-length-4
     same-length-5

@@ -1,11 +1,12 @@
-use Prim.Native.Nat.{_+_, _-_}
-use mathlib.Core.Path.{_≡_, ap, _∙_}
+use Prim.Native.Nat.{_+_, _-_, _≤_}
+use mathlib.Core.Path.{_≡_, refl, ap, _∙_}
 use native.Mathlib.Omega.{arith}
 use lib.ListN.{length, take, drop, length-take}
 use borrow.Rule.Slice.PartMut.{mid-len}
-use Rattle.laws.proofs.Bytes.{copied}
 use Rattle.codec.specs.Writing.{bytesOf}
+use Rattle.laws.proofs.Bytes.{copied}
 use Rattle.join.proofs.Parts.{put-mid}
+use Rattle.device.proofs.Outcomes.{places-cut}
 use borrow.Author.Needs.{needs}
 use Rattle.device.proofs.applying.store_data.Statement.{statement}
 use Rattle.device.proofs.applying.store_data.Tie as tie
@@ -13,8 +14,8 @@ use Rattle.device.proofs.applying.store_data.Tie as tie
 places-of-requires : tie.Need-places-of-requires
 places-of-requires c κs = search needs
 
-wide-requires : tie.Need-wide-requires
-wide-requires c κs = search needs
+cast-n : tie.Need-cast-n
+cast-n c = search needs
 
 cast-at : tie.Need-cast-at
 cast-at c = search needs
@@ -49,15 +50,15 @@ same-length c = search needs
 returns : tie.Need-returns
 unfolding bytesOf
 returns c =
-    let w = c .before .before .before .before .before .before .before in
-    let s = w .before .before .before in
+    let p = c .before .before .before .before .before .before .before .before in
+    let s = p .before .before in
     let a = s .args in
-    let z : w .wide .result - 0 ≡ w .wide .result = omega arith in
-    let src = take (w .wide .result - 0) (w .before .places-of .result) in
-    let b : src ≡ bytesOf (a .body) = rw (z, w .wide .ensures, w .before .places-of .ensures) in
-    let long : length (bytesOf (a .body)) ≡ w .wide .result = rw length-take (omega arith) in
+    let n = a .body .len in
+    let src = take (n - 0) (p .places-of .result) in
+    let b : src ≡ bytesOf (a .body) = rw (p .places-of .ensures) (places-cut (a .body) n refl) in
+    let long : length (bytesOf (a .body)) ≡ n = rw length-take (omega arith) in
     let at = a .to .offset in
-    let end = at + w .wide .result in
+    let end = at + n in
     let room = mid-len at end (a .store .now) (omega arith) in
     put-mid at end (a .store .now) _ (bytesOf (a .body)) (omega (arith, long))
     (c .before .before .copy .ensures .1 ∙ copied src (take (end - at) (drop at (a .store .now))) (ap length b ∙ omega (arith, long, room)) ∙ b)
@@ -67,7 +68,7 @@ store-data-spec =
     tie.close
     (tie.spec
     places-of-requires
-    wide-requires
+    cast-n
     cast-at
     add-end
     sub-copy

@@ -1,5 +1,5 @@
-use Prim.Native.Nat.{_+_, _-_, _*_, _≤_}
-use mathlib.Core.Path.{_≡_, ap, _∙_}
+use Prim.Native.Nat.{_+_, _-_}
+use mathlib.Core.Path.{_≡_, refl, _∙_}
 use native.Mathlib.Omega.{arith}
 use lib.ListN.{length, take, drop}
 use borrow.Rule.Slice.PartMut.{mid-len}
@@ -15,14 +15,14 @@ use Rattle.device.proofs.applying.store_joined.Tie as tie
 places-of-requires : tie.Need-places-of-requires
 places-of-requires c κs = search needs
 
-wide-requires : tie.Need-wide-requires
-wide-requires c κs = search needs
+cast-n : tie.Need-cast-n
+cast-n c = search needs
 
 cast-start : tie.Need-cast-start
 cast-start c = search needs
 
-wide-requires-2 : tie.Need-wide-requires-2
-wide-requires-2 c κs = search needs
+cast-end : tie.Need-cast-end
+cast-end c = search needs
 
 add-end : tie.Need-add-end
 add-end c = search needs
@@ -57,28 +57,27 @@ same-length c = search needs
 returns : tie.Need-returns
 returns c =
     let j = c .before .before in
-    let k = j .before .before .before .before in
-    let w2 = k .before in
-    let w = w2 .before .before in
-    let s = w .before .before .before .before in
+    let q = j .before .before .before .before in
+    let p = q .before .before .before .before in
+    let s = p .before .before .before in
     let a = s .args in
-    let b : take (w .wide .result - 0) (w .before .places-of .result) ≡ bytesOf (a .body) = rw (w .before .places-of .ensures) (places-cut (a .body) (w .wide .result) (w .wide .ensures)) in
+    let b : take (a .body .len - 0) (p .places-of .result) ≡ bytesOf (a .body) = rw (p .places-of .ensures) (places-cut (a .body) (a .body .len) refl) in
     let room = joined-room (a .to) (a .number) (a .total) (a .body) (a .work .now) (s .pre .0 .0) (s .pre .1) in
     let at = a .to .offset in
-    let end = at + w2 .wide2 .result in
+    let end = at + a .to .len in
     let part = take (end - at) (drop at (a .store .now)) in
     let long = mid-len at end (a .store .now) (omega arith) in
     put-mid at end (a .store .now) _ (joinedBytes (a .to) (a .number) (a .body) (a .work .now)) (omega (arith, room .2))
-    (j .join-into .ensures ∙ rw (k .place-of .ensures, b, joins (base (a .to .object)) (a .number) (length (bytesOf (a .body))) (length (a .work .now)) (length part) (room .0) (omega (arith, long, room .1))))
+    (j .join-into .ensures ∙ rw (q .place-of .ensures, b, joins (base (a .to .object)) (a .number) (length (bytesOf (a .body))) (length (a .work .now)) (length part) (room .0) (omega (arith, long, room .1))))
 
 pub store-joined-spec : {M : Type 1} → statement M
 store-joined-spec =
     tie.close
     (tie.spec
     places-of-requires
-    wide-requires
+    cast-n
     cast-start
-    wide-requires-2
+    cast-end
     add-end
     place-of-requires
     sub-join-into

@@ -1,38 +1,56 @@
--- The loop ends after the turn at 255, the largest byte.
+-- The loop ends after the turn at the last pair. The record has ten bytes at each turn.
 use Prim.Native.Nat.{_≤_, _-_}
+use mathlib.Core.Path.{_≡_}
+use lib.ListN.{length, length-set}
+use native.Mathlib.Omega.{arith}
 use borrow.Author.Needs.{needs}
 use Rattle.sweep.proofs.reading.each_pair.Statement.{statement}
 use Rattle.sweep.proofs.reading.each_pair.Tie as tie
 
 abbrev Inv-loop : tie.InvT-loop
-Inv-loop body sum₀ b0₀ sum b0 = b0 ≤ 255
+Inv-loop label frame₀ c₀ pair₀ frame c pair = (pair ≤ 65535) × (length frame ≡ 10)
 
 abbrev μ-loop : tie.MeasureT-loop
-μ-loop body sum₀ b0₀ sum b0 = 255 - b0
-
-none-requires : tie.Need-none-requires Inv-loop μ-loop
-none-requires c κs = search needs
+μ-loop label frame₀ c₀ pair₀ frame c pair = 65535 - pair
 
 loop-holds : tie.Need-loop-holds Inv-loop μ-loop
 loop-holds c = search needs
 
-each-second-byte-requires : tie.Need-each-second-byte-requires Inv-loop μ-loop
-each-second-byte-requires c κs = search needs
+cast-frame : tie.Need-cast-frame Inv-loop μ-loop
+cast-frame c = search needs
 
-add-b0 : tie.Need-add-b0 Inv-loop μ-loop
-add-b0 c = search needs
+array-write-frame : tie.Need-array-write-frame Inv-loop μ-loop
+array-write-frame c = search needs
+
+cast-frame-2 : tie.Need-cast-frame-2 Inv-loop μ-loop
+cast-frame-2 c = search needs
+
+array-write-frame-2 : tie.Need-array-write-frame-2 Inv-loop μ-loop
+array-write-frame-2 c = search needs
+
+slice-aggregate-tally : tie.Need-slice-aggregate-tally Inv-loop μ-loop
+slice-aggregate-tally c = simp length-set (omega arith)
+
+tally-requires : tie.Need-tally-requires Inv-loop μ-loop
+tally-requires c κs = search needs
+
+add-pair : tie.Need-add-pair Inv-loop μ-loop
+add-pair c = search needs
 
 loop-less : tie.Need-loop-less Inv-loop μ-loop
 loop-less c = search needs
 
 loop-again : tie.Need-loop-again Inv-loop μ-loop
-loop-again c = search needs
+loop-again c = (search needs, simp length-set (omega arith))
+
+slice-aggregate-print-counts : tie.Need-slice-aggregate-print-counts Inv-loop μ-loop
+slice-aggregate-print-counts c = search needs
+
+print-counts-requires : tie.Need-print-counts-requires Inv-loop μ-loop
+print-counts-requires c κs = search needs
 
 returns : tie.Need-returns Inv-loop μ-loop
 returns c = search needs
-
-returns-2 : tie.Need-returns-2 Inv-loop μ-loop
-returns-2 c = search needs
 
 pub each-pair-spec : {M : Type 1} → statement M
 each-pair-spec =
@@ -40,11 +58,16 @@ each-pair-spec =
     (tie.spec
     Inv-loop
     μ-loop
-    none-requires
     loop-holds
-    each-second-byte-requires
-    add-b0
+    cast-frame
+    array-write-frame
+    cast-frame-2
+    array-write-frame-2
+    slice-aggregate-tally
+    tally-requires
+    add-pair
     loop-less
     loop-again
-    returns
-    returns-2)
+    slice-aggregate-print-counts
+    print-counts-requires
+    returns)

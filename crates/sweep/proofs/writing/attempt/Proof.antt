@@ -5,6 +5,9 @@ use borrow.Author.Needs.{needs}
 use Rattle.sweep.proofs.writing.attempt.Statement.{statement}
 use Rattle.sweep.proofs.writing.attempt.Tie as tie
 
+message-requires : tie.Need-message-requires
+message-requires c κs = search needs
+
 array-borrow-prefix-bytes : tie.Need-array-borrow-prefix-bytes
 array-borrow-prefix-bytes c = search needs
 
@@ -14,18 +17,8 @@ slice-aggregate-write c = simp length-take (omega arith)
 write-requires : tie.Need-write-requires
 write-requires c κs = search needs
 
-written-requires : tie.Need-written-requires
-written-requires c κs = search needs
-
-returns : tie.Need-returns
-returns c = search needs
-
-refused-requires : tie.Need-refused-requires
-refused-requires c κs = search needs
-
 slice-aggregate-same : tie.Need-slice-aggregate-same
-slice-aggregate-same c =
-    simp (length-append, length-drop) (omega (arith, simp length-take at (c .before .before .before .before .write .kept .1 .0)))
+slice-aggregate-same c = simp (length-append, length-drop) (omega (arith, simp length-take at (c .before .before .write .kept .1 .0)))
 
 slice-aggregate-same-2 : tie.Need-slice-aggregate-same-2
 slice-aggregate-same-2 c = search needs
@@ -33,24 +26,22 @@ slice-aggregate-same-2 c = search needs
 same-requires : tie.Need-same-requires
 same-requires c κs = search needs
 
-untouched-requires : tie.Need-untouched-requires
-untouched-requires c κs = search needs
+counted-requires : tie.Need-counted-requires
+counted-requires c κs = search needs
 
-returns-2 : tie.Need-returns-2
-returns-2 c = search needs
+returns : tie.Need-returns
+returns c = search needs
 
 pub attempt-spec : {M : Type 1} → statement M
 attempt-spec =
     tie.close
     (tie.spec
+    message-requires
     array-borrow-prefix-bytes
     slice-aggregate-write
     write-requires
-    written-requires
-    returns
-    refused-requires
     slice-aggregate-same
     slice-aggregate-same-2
     same-requires
-    untouched-requires
-    returns-2)
+    counted-requires
+    returns)

@@ -5,13 +5,22 @@ use Rattle.sweep.proofs.writing.each_value.Statement.{statement}
 use Rattle.sweep.proofs.writing.each_value.Tie as tie
 
 abbrev Inv-loop : tie.InvT-loop
-Inv-loop field sum₀ x₀ sum x = x ≤ 255
+Inv-loop row digit message c₀ x₀ c x = x ≤ 255
 
 abbrev μ-loop : tie.MeasureT-loop
-μ-loop field sum₀ x₀ sum x = 255 - x
+μ-loop row digit message c₀ x₀ c x = 255 - x
 
-none-requires : tie.Need-none-requires Inv-loop μ-loop
-none-requires c κs = search needs
+returns : tie.Need-returns Inv-loop μ-loop
+returns c = search needs
+
+shared-slice-read-digit : tie.Need-shared-slice-read-digit Inv-loop μ-loop
+shared-slice-read-digit c = search needs
+
+shared-slice-read-fine : tie.Need-shared-slice-read-fine Inv-loop μ-loop
+shared-slice-read-fine c = search needs
+
+fine-requires : tie.Need-fine-requires Inv-loop μ-loop
+fine-requires c κs = search needs
 
 loop-holds : tie.Need-loop-holds Inv-loop μ-loop
 loop-holds c = search needs
@@ -31,8 +40,17 @@ loop-less c = search needs
 loop-again : tie.Need-loop-again Inv-loop μ-loop
 loop-again c = search needs
 
-returns : tie.Need-returns Inv-loop μ-loop
-returns c = search needs
+sub-print-counts : tie.Need-sub-print-counts Inv-loop μ-loop
+sub-print-counts c = search needs
+
+part-print-counts-start : tie.Need-part-print-counts-start Inv-loop μ-loop
+part-print-counts-start c = search needs
+
+part-print-counts-end : tie.Need-part-print-counts-end Inv-loop μ-loop
+part-print-counts-end c = search needs
+
+print-counts-requires : tie.Need-print-counts-requires Inv-loop μ-loop
+print-counts-requires c κs = search needs
 
 returns-2 : tie.Need-returns-2 Inv-loop μ-loop
 returns-2 c = search needs
@@ -43,12 +61,18 @@ each-value-spec =
     (tie.spec
     Inv-loop
     μ-loop
-    none-requires
+    returns
+    shared-slice-read-digit
+    shared-slice-read-fine
+    fine-requires
     loop-holds
     with-requires
     attempt-requires
     add-x
     loop-less
     loop-again
-    returns
+    sub-print-counts
+    part-print-counts-start
+    part-print-counts-end
+    print-counts-requires
     returns-2)

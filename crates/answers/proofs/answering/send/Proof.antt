@@ -1,0 +1,48 @@
+use Prim.Native.Nat.{_+_, _-_, _*_}
+use mathlib.Core.Path.{_≡_}
+use native.Mathlib.Omega.{arith}
+use Rattle.answers.proofs.Sending.{put-there}
+use borrow.Author.Needs.{needs}
+use Rattle.answers.proofs.answering.send.Statement.{statement}
+use Rattle.answers.proofs.answering.send.Tie as tie
+
+mul-at : tie.Need-mul-at
+mul-at c = search needs
+
+add-end : tie.Need-add-end
+add-end c = search needs
+
+sub-put-long : tie.Need-sub-put-long
+sub-put-long c = search needs
+
+part-put-long-start : tie.Need-part-put-long-start
+part-put-long-start c = search needs
+
+part-put-long-end : tie.Need-part-put-long-end
+part-put-long-end c = search needs
+
+put-long-requires : tie.Need-put-long-requires
+put-long-requires c κs = search needs
+
+same-length : tie.Need-same-length
+same-length c = search needs
+
+returns : tie.Need-returns
+returns c =
+    let s = c .before .before .before .before .before in
+    let a = s .args in
+    let k : a .n * 10 + 10 - a .n * 10 ≡ 10 = omega arith in
+    rw (c .before .before .put-long .ensures, k) (put-there (a .about) (a .flag) (a .payload) (a .out .now) (a .n * 10) (s .pre))
+
+pub send-spec : {M : Type 1} → statement M
+send-spec =
+    tie.close
+    (tie.spec
+    mul-at
+    add-end
+    sub-put-long
+    part-put-long-start
+    part-put-long-end
+    put-long-requires
+    same-length
+    returns)

@@ -1,0 +1,73 @@
+use Prim.Native.Nat.{_*_, _≤_}
+use mathlib.Core.Path.{_≡_, ap, _∙_}
+use native.Mathlib.Omega.{arith}
+use lib.ListN.{length, take, drop, length-take}
+use Rattle.laws.specs.Put.{put}
+use Rattle.codec.specs.declared.Data.{Data}
+use Rattle.codec.specs.declared.Message.the-variants.{Fragment}
+use Rattle.codec.specs.Writing.{imageOf}
+use Rattle.codec.proofs.Datas.{tidy-data}
+use Rattle.guest.specs.Step.{fragmentFrame}
+use Rattle.answers.proofs.Sending.{four-at}
+use borrow.Author.Needs.{needs}
+use Rattle.answers.proofs.answering.send_full.Statement.{statement}
+use Rattle.answers.proofs.answering.send_full.Tie as tie
+
+mul-start : tie.Need-mul-start
+mul-start c = search needs
+
+shared-slice-read-t8 : tie.Need-shared-slice-read-t8
+shared-slice-read-t8 c = search needs
+
+add-t9 : tie.Need-add-t9
+add-t9 c = search needs
+
+shared-slice-read-t11 : tie.Need-shared-slice-read-t11
+shared-slice-read-t11 c = search needs
+
+add-t12 : tie.Need-add-t12
+add-t12 c = search needs
+
+shared-slice-read-t14 : tie.Need-shared-slice-read-t14
+shared-slice-read-t14 c = search needs
+
+add-t15 : tie.Need-add-t15
+add-t15 c = search needs
+
+shared-slice-read-t17 : tie.Need-shared-slice-read-t17
+shared-slice-read-t17 c = search needs
+
+send-piece-requires : tie.Need-send-piece-requires
+send-piece-requires c κs =
+    let s = c .before .before .before .before .before .before .before in
+    let a = s .args in
+    let p = s .pre in
+    let four : length (take 4 (drop (4 * a .n) (a .part .now))) ≤ 4 = rw length-take (omega arith) in
+    (p .0, omega arith, p .1, rw (four-at (a .part .now) (a .n) (p .2)) (tidy-data _ (omega arith) 4 four), p .3)
+
+same-length : tie.Need-same-length
+same-length c = search needs
+
+returns : tie.Need-returns
+unfolding fragmentFrame
+returns c =
+    let s = c .before .before .before .before .before .before .before .before .before .before in
+    let a = s .args in
+    c .before .before .send-piece .ensures
+    ∙ ap (λ (d : Data). put (a .out .now) (a .n * 10) (imageOf (Fragment (a .about) (a .n) (length (a .part .now)) d))) (four-at (a .part .now) (a .n) (s .pre .2))
+
+pub send-full-spec : {M : Type 1} → statement M
+send-full-spec =
+    tie.close
+    (tie.spec
+    mul-start
+    shared-slice-read-t8
+    add-t9
+    shared-slice-read-t11
+    add-t12
+    shared-slice-read-t14
+    add-t15
+    shared-slice-read-t17
+    send-piece-requires
+    same-length
+    returns)

@@ -1,0 +1,7 @@
+pub mod Facts
+pub mod Plans
+pub mod Numbers
+pub mod Effects
+pub mod Frames
+pub mod Mixed
+pub mod Shown

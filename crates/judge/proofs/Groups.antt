@@ -1,0 +1,192 @@
+-- Checks in groups are 01's list: the plan decided group by group, and what the code makes of a Request.
+use Prim.Native.Nat.{ℕ, _≤_, _<_}
+use mathlib.Core.Path.{_≡_, refl, sym, ap, _∙_}
+use mathlib.Core.Bool.{Bool, true, false, cond, not, _&&_, _||_}
+use mathlib.Mathlib.Data.Bool.Basic.{or-eq-false-eq-eq-false-and-eq-false as neither}
+use mathlib.Core.List.{List, [], _∷_, _++_}
+use native.Mathlib.Omega.{arith}
+use lib.ListN.{length}
+use lib.Dec.{eqb, leb, ltb}
+use borrow.Author.Tests.{eqb-true, eqb-false, ltb-true, ltb-false, eq-eqb, ne-eqb, lt-ltb, le-ltb, le-leb}
+use Rattle.laws.specs.Checks.{Check, firstOf, holdsAt, risesFrom}
+use Rattle.laws.proofs.Tests.{split, clash}
+use Rattle.laws.proofs.Checks.{first-append, first-most, none-holds}
+use Rattle.codec.specs.declared.Header.{Header}
+use Rattle.codec.specs.declared.Message.{Message}
+use Rattle.codec.specs.declared.Message.the-variants.{Short, Plain, Fragment}
+use Rattle.codec.specs.declared.Answer.{Answer}
+use Rattle.codec.specs.declared.Answer.the-variants.{Got, Refused}
+use Rattle.codec.specs.Names.{writeService, readService}
+use Rattle.codec.specs.Fields.{headerOf}
+use Rattle.codec.specs.Reading.{barred, subjectOf, dataOf, payloadOf, messageOf, readOf, numberOf}
+use Rattle.codec.proofs.Long.{got, message-plain, message-fragment}
+use Rattle.codec.proofs.Trips.{read-message}
+use Rattle.codec.proofs.Promises.{reads-exactly}
+use Rattle.table.specs.declared.Attribute.{Attribute}
+use Rattle.table.specs.declared.Found.{Found}
+use Rattle.table.specs.declared.Found.the-variants.{At, Nothing}
+use Rattle.table.specs.Table.{readable, writable, wellFormed}
+use Rattle.guest.specs.declared.Plan.{Plan}
+use Rattle.guest.specs.declared.Plan.the-variants.{Quiet, Error, Read, Write, Join}
+use Rattle.guest.specs.Checks.{Setting, misfit, noService, actionOrEvent, badShape, soughtIn}
+use Rattle.guest.specs.Step.{served, refused, planOf}
+use Rattle.guest.proofs.Plans.{fit, passed}
+use Rattle.judge.specs.Code.{routeChecks, quietChecks, shapeChecks, attributeChecks, planBy, requestPlan, readFound, readPlan, bodyPlan, writePlan, answered, planByService}
+
+-- two groups of checks, one after the other
+plan-append : (cs ds : List Check) → risesFrom 0 cs ≡ true → (o : ℕ) (p : Plan)
+    → planBy (firstOf (cs ++ ds)) o p ≡ planBy (firstOf cs) o (planBy (firstOf ds) o p)
+plan-append cs ds r o p =
+    let a = first-append 0 cs ds r in
+    split (eqb (firstOf cs) 0) (λ t. rw a (simp t)) (λ t. rw a (simp t))
+
+pub plan-by-groups : (s : Setting) (r : List ℕ)
+    → planOf s r ≡ planBy (firstOf (quietChecks s r)) (headerOf r .object) (requestPlan (s .table) r)
+unfolding planOf
+plan-by-groups s r =
+    let h = headerOf r in
+    let o = h .object in
+    let late = attributeChecks h (messageOf r) (soughtIn (s .table) h) in
+    let p = served h (messageOf r) (soughtIn (s .table) h) in
+    plan-append (quietChecks s r) (shapeChecks h ++ late) refl o p
+    ∙ ap (planBy (firstOf (quietChecks s r)) o) (plan-append (shapeChecks h) late refl o p)
+
+-- ---- a Request, by its service
+
+-- whether a message is in long form
+abbrev isLong : Message → Bool
+isLong (Short dir address service) = false
+isLong (Plain u b) = true
+isLong (Fragment u number total b) = true
+
+-- checks 9 to 13 of a Write
+write-as-checks : (h : Header) → h .service ≡ writeService → (m : Message) → isLong m ≡ true → (f : Found)
+    → writePlan (h .object) m f ≡ planBy (firstOf (attributeChecks h m f)) (h .object) (served h m f)
+unfolding writePlan bodyPlan
+write-as-checks h e m l Nothing = refl
+write-as-checks h e m l (At a) = split (writable a) (λ t. go m l t) (λ t. simp (read, t))
+  where
+    read : eqb (h .service) readService ≡ false
+    read = ne-eqb (h .service) readService (λ q. omega (arith, q))
+
+    write : eqb (h .service) writeService ≡ true
+    write = eq-eqb (h .service) writeService e
+
+    go : (m : Message) → isLong m ≡ true → writable a ≡ true
+        → writePlan (h .object) m (At a) ≡ planBy (firstOf (attributeChecks h m (At a))) (h .object) (served h m (At a))
+    go (Short d q v) l t = clash l refl
+    go (Plain u b) l t = split (eqb (b .len) (a .len)) (λ q. simp (read, write, t, q)) (λ q. simp (read, write, t, q))
+    go (Fragment u n k b) l t = split (eqb k (a .len)) (λ q. simp (read, write, t, q)) (λ q. simp (read, write, t, q))
+
+-- a Request that checks 3 to 6 let pass
+module _ (table r : List ℕ) (b : barred (headerOf r) ≡ false) (v : noService (headerOf r) ≡ false) where
+  long : headerOf r .dlc ≡ 0 → ⊥
+  long q = omega (arith, ltb-false (headerOf r .dlc) 2 (neither (ltb (headerOf r .dlc) 2) (ltb (headerOf r .service) 4) .0 v .0))
+
+  -- the message of a Read that check 8 lets pass is plain, so that 11 to 13 say nothing of it
+  read-request : headerOf r .service ≡ readService → readPlan (headerOf r) (soughtIn table (headerOf r)) ≡ requestPlan table r
+  unfolding readPlan
+  read-request e =
+      let a : actionOrEvent (headerOf r) ≡ false = le-ltb 5 (headerOf r .service) (omega arith) in
+      let five = eq-eqb (headerOf r .service) readService e in
+      let four = ne-eqb (headerOf r .service) writeService (λ q. omega (arith, q)) in
+      split (eqb (headerOf r .flag) 1 || not (eqb (headerOf r .dlc) 2))
+      (λ t. simp (a, five, t))
+      (λ t.
+      let good : badShape (headerOf r) ≡ false = simp (five, four, t) in
+      let m = message-plain r long (passed (headerOf r) b v a good .plain-read e) in
+      simp (a, t, five, four) (by-found m five four (soughtIn table (headerOf r))))
+    where
+      by-found : messageOf r ≡ Plain (subjectOf (headerOf r)) (dataOf (payloadOf r))
+          → eqb (headerOf r .service) readService ≡ true → eqb (headerOf r .service) writeService ≡ false → (f : Found)
+          → readFound (headerOf r .object) f
+          ≡ planBy (firstOf (attributeChecks (headerOf r) (messageOf r) f)) (headerOf r .object) (served (headerOf r) (messageOf r) f)
+      by-found m five four Nothing = refl
+      by-found m five four (At x) = split (readable x) (λ t. simp (m, five, four, t)) (λ t. simp (m, five, four, t))
+
+  module _ (e : headerOf r .service ≡ writeService) where
+    no-action : actionOrEvent (headerOf r) ≡ false
+    no-action = le-ltb 5 (headerOf r .service) (omega arith)
+
+    -- a Write that the codec refuses is of the shape that check 8 refuses
+    refused-request : (k : ℕ) → length r ≡ 10 → readOf r ≡ Refused k → Error 8 (headerOf r .object) ≡ requestPlan table r
+    refused-request k n f =
+        split (badShape (headerOf r))
+        (λ t. simp (no-action, t))
+        (λ t.
+        let g = got r n (passed (headerOf r) b v no-action t .unrefused) in
+        let q : _≡_ {A = ℕ} 0 1 = cc in
+        absurd (omega arith))
+
+    -- and of one that it reads, checks 9 to 13 are left
+    write-request : (m : Message) → readOf r ≡ Got m
+        → (isLong m ≡ true)
+        × (planBy (firstOf (attributeChecks (headerOf r) m (soughtIn table (headerOf r)))) (headerOf r .object) (served (headerOf r) m (soughtIn table (headerOf r))) ≡ requestPlan table r)
+    unfolding holdsAt
+    write-request m g =
+        let is = read-message r m g in
+        let cramped = reads-exactly r .0 (ap numberOf g) 8 in
+        let dlc = neither (ltb (headerOf r .dlc) 2) (ltb (headerOf r .service) 4) .0 v .0 in
+        let shape : badShape (headerOf r) ≡ false = simp (eq-eqb (headerOf r .service) writeService e, ne-eqb (headerOf r .service) readService (λ q. omega (arith, q))) (simp (le-leb 2 (headerOf r .dlc) (ltb-false (headerOf r .dlc) 2 dlc)) at cramped) in (
+          split (eqb (headerOf r .flag) 1)
+              (λ f. rw (← is, message-fragment r long (eqb-true (headerOf r .flag) 1 f)))
+              (λ f. rw (← is, message-plain r long (eqb-false (headerOf r .flag) 1 f))),
+          rw (← is) (simp (no-action, shape)),
+        )
+
+  -- what the code makes of it is what 01's list gives
+  request-by-service : length r ≡ 10 → planByService table (headerOf r) r ≡ requestPlan table r
+  unfolding planByService
+  request-by-service n =
+      split (ltb 5 (headerOf r .service))
+      (λ t. simp t)
+      (λ t. split (eqb (headerOf r .service) readService)
+      (λ q. of-read t q ∙ read-request (eqb-true (headerOf r .service) readService q))
+      (λ q.
+      let least = ltb-false (headerOf r .service) 4 (neither (ltb (headerOf r .dlc) 2) (ltb (headerOf r .service) 4) .0 v .1) in
+      let e : headerOf r .service ≡ writeService = omega (arith, ltb-false 5 (headerOf r .service) t, eqb-false (headerOf r .service) readService q) in
+      of-write t q ∙ by-answer e (readOf r) refl))
+    where
+      of-read : ltb 5 (headerOf r .service) ≡ false → eqb (headerOf r .service) readService ≡ true
+          → planByService table (headerOf r) r ≡ readPlan (headerOf r) (soughtIn table (headerOf r))
+      of-read t q = simp (t, q)
+
+      of-write : ltb 5 (headerOf r .service) ≡ false → eqb (headerOf r .service) readService ≡ false
+          → planByService table (headerOf r) r ≡ answered (headerOf r .object) (soughtIn table (headerOf r)) (readOf r)
+      of-write t q = simp (t, q)
+
+      by-answer : headerOf r .service ≡ writeService → (a : Answer) → readOf r ≡ a
+          → answered (headerOf r .object) (soughtIn table (headerOf r)) a ≡ requestPlan table r
+      by-answer e (Refused k) p = refused-request e k n p
+      by-answer e (Got m) p =
+          let w = write-request e m p in
+          write-as-checks (headerOf r) e m (w .0) (soughtIn table (headerOf r)) ∙ w .1
+
+-- ---- a call, check by check
+
+-- checks 1 to 6 put no frame
+plan-quiet : (s : Setting) (r : List ℕ) (n : ℕ) → n ≡ firstOf (quietChecks s r) → (n ≡ 0 → ⊥) → planOf s r ≡ Quiet n
+plan-quiet s r n e z =
+    let q = firstOf (quietChecks s r) in
+    plan-by-groups s r ∙ simp (ne-eqb q 0 (λ k. z (e ∙ k)), le-leb q 6 (first-most 6 (quietChecks s r) refl)) (ap Quiet (sym e))
+
+pub plan-misfit : (s : Setting) (r : List ℕ) → misfit s r ≡ true → planOf s r ≡ Quiet 1
+plan-misfit s r m = plan-quiet s r 1 (simp m) (λ q. omega (arith, q))
+
+module _ (s : Setting) (r : List ℕ) (m : misfit s r ≡ false) where
+  pub plan-ill-formed : wellFormed (s .table) (s .store) ≡ false → planOf s r ≡ Quiet 2
+  plan-ill-formed w = plan-quiet s r 2 (simp (m, w)) (λ q. omega (arith, q))
+
+  module _ (w : wellFormed (s .table) (s .store) ≡ true) (n : ℕ) (e : n ≡ firstOf (routeChecks (s .own) (headerOf r))) where
+    first : firstOf (quietChecks s r) ≡ n
+    first = simp (m, w) (sym e)
+
+    pub plan-unrouted : (n ≡ 0 → ⊥) → planOf s r ≡ Quiet n
+    plan-unrouted z = plan-quiet s r n (sym first) z
+
+    -- what none of the six refuses: the plan is that of a Request, as the code finds it by the service
+    pub plan-request : n ≡ 0 → planByService (s .table) (headerOf r) r ≡ planOf s r
+    unfolding holdsAt
+    plan-request z =
+        let none = none-holds (quietChecks s r) refl .0 (first ∙ z) in
+        request-by-service (s .table) r (none 3) (none 5) (fit s r m .ten) ∙ sym (plan-by-groups s r ∙ simp (first ∙ z))

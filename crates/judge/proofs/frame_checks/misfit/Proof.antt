@@ -1,0 +1,32 @@
+use Rattle.laws.proofs.Tests.{tests}
+use Rattle.judge.proofs.frame_checks.misfit.Statement.{statement}
+use Rattle.judge.proofs.frame_checks.misfit.Tie as tie
+
+returns : tie.Need-returns
+returns c = search tests
+
+returns-2 : tie.Need-returns-2
+returns-2 c = search tests
+
+returns-3 : tie.Need-returns-3
+returns-3 c = search tests
+
+returns-4 : tie.Need-returns-4
+returns-4 c = search tests
+
+returns-5 : tie.Need-returns-5
+returns-5 c = search tests
+
+returns-6 : tie.Need-returns-6
+returns-6 c = search tests
+
+returns-7 : tie.Need-returns-7
+returns-7 c = search tests
+
+returns-8 : tie.Need-returns-8
+returns-8 c = search tests
+
+pub misfit-spec : {M : Type 1} → statement M
+misfit-spec =
+    tie.close
+    (tie.spec returns returns-2 returns-3 returns-4 returns-5 returns-6 returns-7 returns-8)

@@ -1,0 +1,92 @@
+-- The checks in the groups in which the code decides them, and what it makes of a Request.
+use Prim.Native.Nat.{ℕ, _-_, _*_, min}
+use mathlib.Core.Bool.{Bool, true, false, cond, not, _||_}
+use mathlib.Core.List.{List, [], _∷_, _++_}
+use lib.Dec.{eqb, ltb}
+use Rattle.laws.specs.Checks.{Check, firstOf}
+use Rattle.codec.specs.declared.Header.{Header}
+use Rattle.codec.specs.declared.Data.{Data}
+use Rattle.codec.specs.declared.Message.{Message}
+use Rattle.codec.specs.declared.Message.the-variants.{Short, Plain, Fragment}
+use Rattle.codec.specs.declared.Answer.{Answer}
+use Rattle.codec.specs.declared.Answer.the-variants.{Got, Refused}
+use Rattle.codec.specs.Names.{readService}
+use Rattle.codec.specs.Fields.{headerOf}
+use Rattle.codec.specs.Reading.{barred, messageOf, readOf}
+use Rattle.table.specs.declared.Attribute.{Attribute}
+use Rattle.table.specs.declared.Found.{Found}
+use Rattle.table.specs.declared.Found.the-variants.{At, Nothing}
+use Rattle.table.specs.Table.{readable, writable}
+use Rattle.guest.specs.declared.Plan.{Plan}
+use Rattle.guest.specs.declared.Plan.the-variants.{Quiet, Error, Read, Write, Join}
+use Rattle.guest.specs.Checks.{Setting, misfit, illFormed, notForUs, noService, notRequest, actionOrEvent, badShape, unknown, noAccess, wrongLength, wrongPiece, highNumber, soughtIn}
+use Rattle.guest.specs.Step.{served, refused}
+
+-- checks 1 and 2, of the call
+abbrev pub callChecks : Setting → List ℕ → List Check
+callChecks s r = (misfit s r, 1) ∷ (illFormed s, 2) ∷ []
+
+-- checks 3 to 6, of the header
+abbrev pub routeChecks : ℕ → Header → List Check
+routeChecks own h = (barred h, 3) ∷ (notForUs own h, 4) ∷ (noService h, 5) ∷ (notRequest h, 6) ∷ []
+
+-- 1 to 6: those that put no frame
+abbrev pub quietChecks : Setting → List ℕ → List Check
+quietChecks s r = callChecks s r ++ routeChecks (s .own) (headerOf r)
+
+-- 7 and 8, of the header
+abbrev pub shapeChecks : Header → List Check
+shapeChecks h = (actionOrEvent h, 7) ∷ (badShape h, 8) ∷ []
+
+-- checks 9 to 13, of the attribute and the message
+abbrev pub attributeChecks : Header → Message → Found → List Check
+attributeChecks h m found =
+    (unknown found, 9) ∷ (noAccess h found, 10) ∷ (wrongLength h m found, 11) ∷ (wrongPiece m, 12) ∷ (highNumber m, 13) ∷ []
+
+-- refused with a number, or what comes after
+abbrev pub planBy : ℕ → ℕ → Plan → Plan
+planBy n object p = cond (eqb n 0) p (refused n object)
+
+-- the plan of a frame that passes checks 1 to 6
+abbrev pub requestPlan : List ℕ → List ℕ → Plan
+requestPlan table r =
+    planBy (firstOf (shapeChecks (headerOf r))) (headerOf r .object)
+    (planBy (firstOf (attributeChecks (headerOf r) (messageOf r) (soughtIn table (headerOf r)))) (headerOf r .object)
+    (served (headerOf r) (messageOf r) (soughtIn table (headerOf r))))
+
+-- ---- the same as the code decides it: by the service, for every header, message and record
+
+-- checks 8 to 10 of a Read: it has no data that 11 to 13 could look at
+abbrev pub readFound : ℕ → Found → Plan
+readFound object Nothing = Error 9 object
+readFound object (At a) = cond (readable a) (Read a) (Error 10 object)
+
+unfoldable pub readPlan : Header → Found → Plan
+readPlan h found = cond (eqb (h .flag) 1 || not (eqb (h .dlc) 2)) (Error 8 (h .object)) (readFound (h .object) found)
+
+-- checks 12 and 13 of a fragment
+abbrev pub pieceChecks : ℕ → ℕ → Data → List Check
+pieceChecks number total b =
+    (not (ltb (4 * number) total) || not (eqb (b .len) (min 4 (total - 4 * number))), 12) ∷ (ltb 63 number, 13) ∷ []
+
+-- and 11 to 13 of a Write; a message in short form is none
+unfoldable pub bodyPlan : ℕ → Attribute → Message → Plan
+bodyPlan object a (Short dir address service) = Quiet 5
+bodyPlan object a (Plain u b) = cond (eqb (b .len) (a .len)) (Write a b) (Error 11 object)
+bodyPlan object a (Fragment u number total b) =
+    cond (eqb total (a .len)) (planBy (firstOf (pieceChecks number total b)) object (Join a number total b)) (Error 11 object)
+
+-- 9 to 13 of a Write
+unfoldable pub writePlan : ℕ → Message → Found → Plan
+writePlan object m Nothing = Error 9 object
+writePlan object m (At a) = cond (writable a) (bodyPlan object a m) (Error 10 object)
+
+-- 8 to 13 of a Write: what the codec refuses has the flag, and neither number nor total
+abbrev pub answered : ℕ → Found → Answer → Plan
+answered object found (Refused n) = Error 8 object
+answered object found (Got m) = writePlan object m found
+
+unfoldable pub planByService : List ℕ → Header → List ℕ → Plan
+planByService table h r =
+    cond (ltb 5 (h .service)) (Error 7 (h .object))
+    (cond (eqb (h .service) readService) (readPlan h (soughtIn table h)) (answered (h .object) (soughtIn table h) (readOf r)))

@@ -1,0 +1,119 @@
+// Checks 7 to 13, in 01's order: what a Request asks for. No state is looked at.
+ghost use mathlib.Core.Path.{_≡_};
+ghost use Rattle.laws.specs.Checks.{firstOf};
+ghost use Rattle.guest.specs.Checks.{soughtIn};
+ghost use Rattle.judge.specs.Code.{pieceChecks, planBy, bodyPlan, writePlan, readPlan, planByService};
+use crate::sizes::least;
+use crate::sizes::wide;
+use codec::Answer;
+use codec::Data;
+use codec::Header;
+use codec::Message;
+use guest::Plan;
+use table::Attribute;
+use table::Found;
+
+// Checks 12 and 13 of a fragment. 4n is computed in more than eight bits.
+fn piece_plan(object: u8, to: Attribute, number: u8, total: u8, body: Data) -> Plan
+    ensures { λ r. ⌜ r ≡ planBy (firstOf (pieceChecks number total body)) object (Plan.Join to number total body) ⌝ }
+{
+    let start = 4 * wide(number);
+    let end = wide(total);
+    if end <= start {
+        return Plan::Error { number: 12, object };
+    }
+    if wide(body.len) != least(4, end - start) {
+        return Plan::Error { number: 12, object };
+    }
+    if 63 < number {
+        return Plan::Error { number: 13, object };
+    }
+    Plan::Join {
+        to,
+        number,
+        total,
+        body,
+    }
+}
+
+// Checks 11 to 13 of a Write.
+fn body_plan(object: u8, a: Attribute, m: Message) -> Plan
+    ensures { λ r. ⌜ r ≡ bodyPlan object a m ⌝ }
+{
+    match m {
+        Message::Short {
+            dir: _,
+            address: _,
+            service: _,
+        } => Plan::Quiet(5),
+        Message::Plain { about: _, body } => {
+            if body.len != a.len {
+                return Plan::Error { number: 11, object };
+            }
+            Plan::Write { to: a, body }
+        }
+        Message::Fragment {
+            about: _,
+            number,
+            total,
+            body,
+        } => {
+            if total != a.len {
+                return Plan::Error { number: 11, object };
+            }
+            piece_plan(object, a, number, total, body)
+        }
+    }
+}
+
+// Checks 9 to 13 of a Write.
+fn write_plan(table: &[u8], h: Header, m: Message) -> Plan
+    ensures { λ r. ⌜ r ≡ writePlan (h .object) m (soughtIn (now (table .entry)) h) ⌝ }
+{
+    let object = h.object;
+    let Found::At(a) = table::find(table, object, h.id) else {
+        return Plan::Error { number: 9, object };
+    };
+    if table::may_write(a) {
+        return body_plan(object, a, m);
+    }
+    Plan::Error { number: 10, object }
+}
+
+// Checks 8 to 10 of a Read. It has no data, so the codec is not asked for its message.
+fn read_plan(table: &[u8], h: Header) -> Plan
+    ensures { λ r. ⌜ r ≡ readPlan h (soughtIn (now (table .entry)) h) ⌝ }
+{
+    let object = h.object;
+    if h.flag == 1 {
+        return Plan::Error { number: 8, object };
+    }
+    if h.dlc != 2 {
+        return Plan::Error { number: 8, object };
+    }
+    let Found::At(a) = table::find(table, object, h.id) else {
+        return Plan::Error { number: 9, object };
+    };
+    if table::may_read(a) {
+        return Plan::Read(a);
+    }
+    Plan::Error { number: 10, object }
+}
+
+// Checks 7 to 13: what a Request with this header asks for. Of one that passes checks 3 to 6 this is what 01's list gives (`request-by-service`).
+pub fn request_plan(frame: &[u8], h: Header, table: &[u8]) -> Plan
+    ensures { λ r. ⌜ r ≡ planByService (now (table .entry)) h (now (frame .entry)) ⌝ }
+{
+    let object = h.object;
+    if 5 < h.service {
+        return Plan::Error { number: 7, object };
+    }
+    if h.service == 5 {
+        return read_plan(table, h);
+    }
+    let Answer::Got(m) = codec::read(frame) else {
+        // The codec gives no message of a fragment without number and total; of the rest that it refuses, checks 3 and 5 left nothing.
+        return Plan::Error { number: 8, object };
+    };
+    write_plan(table, h, m)
+}

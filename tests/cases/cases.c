@@ -1,0 +1,181 @@
+/*
+ * Plays cases from standard input into sds_step and prints a line for each. After each frame the number, the count and every byte of store, work
+ * area and output are compared, those behind their ends too; so are table and record, which must not alter. The status is 0 if nothing differs.
+ *
+ * A case is rows of text. Numbers are decimal, bytes two hex digits each.
+ *   case NAME         a new case: the scope page's sample device with 67 bytes of store, 8,320 of work area and 650 of output, each of them 5A
+ *   address N         the own address
+ *   Store N B         a store of N bytes, each of them B; Table, Work and Output go the same way
+ *   store P B B ..    these bytes, from place P of the store on; table, work and output go the same way
+ *   frame B B ..      the record that is to be sent. The rows behind it say what is wanted of store, work and output, where it is not what was lent
+ *   reply N C         the number and the count of frames that are wanted: the record is sent, and all is compared. Then the output is all 5A again
+ *   # ..              nothing, as an empty row
+ */
+#include <stdio.h>
+#include <stdlib.h>
+#include <string.h>
+#include "sds.h"
+
+enum { ROOM = 40000, STAYS = 0x5A };    /* more than the longest area, a store that is one byte too long; what an area holds that has to stay */
+
+struct area {
+    const char *name;
+    size_t length;
+    uint8_t lent[ROOM], wanted[ROOM];    /* STAYS behind the length */
+};
+static struct area table = {.name = "table"}, store = {.name = "store"}, work = {.name = "work"}, output = {.name = "output"}, record = {.name = "frame"};
+static struct area *const areas[] = {&table, &store, &work, &output, &record};
+
+static uint32_t own;
+static int row_number, awaited;          /* awaited: a frame has come, and its reply has not */
+static int cases, frames, frames_here, failed, failed_here;
+
+static void malformed(const char *why)
+{
+    fprintf(stderr, "cases: row %d: %s\n", row_number, why);
+    exit(2);
+}
+
+static unsigned long number(char **text)
+{
+    char *end;
+    unsigned long n = strtoul(*text, &end, 10);
+    if (end == *text || n >= ROOM)
+        malformed("a number is expected");
+    *text = end;
+    return n;
+}
+
+/* a blank and two digits; -1 at the end of the row */
+static int byte(char **text)
+{
+    char digits[3] = {0}, *end;
+    if (**text == 0)
+        return -1;
+    if (**text != ' ' || !(*text)[1] || !(*text)[2])
+        malformed("bytes of two digits are expected");
+    memcpy(digits, *text + 1, 2);
+    long value = strtol(digits, &end, 16);
+    if (*end || value < 0 || digits[0] == ' ' || digits[0] == '-' || digits[0] == '+')
+        malformed("hex digits are expected");
+    *text += 3;
+    return (int)value;
+}
+
+static void fill(struct area *a, size_t length, int b)
+{
+    memset(a->lent, STAYS, ROOM);
+    memset(a->lent, b, length);
+    memcpy(a->wanted, a->lent, ROOM);
+    a->length = length;
+}
+
+static void lay(struct area *a, size_t place, char *text)
+{
+    for (int b; (b = byte(&text)) >= 0; place++) {
+        if (place >= a->length)
+            malformed("bytes behind the area's end");
+        a->wanted[place] = (uint8_t)b;
+        if (!awaited)
+            a->lent[place] = (uint8_t)b;
+    }
+}
+
+static void end_case(void)
+{
+    if (!cases)
+        return;
+    if (awaited || !frames_here)
+        malformed("the case before sends nothing, or has a frame without a reply");
+    printf(failed_here ? "" : ": ok\n");
+    failed |= failed_here;
+}
+
+static void begin_case(const char *name)
+{
+    static const uint8_t sample[] = {2, 0x12, 5, 1, 0, 0, 0, 1, 2, 0x38, 7, 32, 1, 0, 0x3F, 7, 3, 0x0A, 3, 2, 0x21, 0, 0, 0, 3, 0x38, 7, 32, 0x23, 0, 0x3F, 7};
+    end_case();
+    printf("%s", name);
+    cases++, frames_here = failed_here = 0, own = 9;
+    fill(&store, 67, STAYS), fill(&work, SDS_WORK, STAYS), fill(&output, SDS_OUT + SDS_RECORD, STAYS), fill(&table, sizeof sample, 0);
+    memcpy(table.lent, sample, sizeof sample);
+    memcpy(table.wanted, sample, sizeof sample);
+}
+
+static void differs(const char *what)
+{
+    printf("%s%s, row %d", failed_here ? "" : ": DIFFERS in ", what, row_number);
+    putchar('\n');
+    failed_here = 1;
+}
+
+static void send(unsigned long wanted_number, unsigned long wanted_count)
+{
+    uint32_t reply = sds_step(record.lent, record.length, own, table.lent, table.length, store.lent, store.length,
+                              work.lent, work.length, output.lent, output.length);
+    frames++, frames_here++, awaited = 0;
+    if (SDS_NUMBER(reply) != wanted_number)
+        differs("the number");
+    if (SDS_COUNT(reply) != wanted_count)
+        differs("the count");
+    for (size_t i = 0; i < sizeof areas / sizeof *areas; i++) {
+        if (memcmp(areas[i]->lent, areas[i]->wanted, ROOM))
+            differs(areas[i]->name);
+    }
+    fill(&output, output.length, STAYS);
+}
+
+static int is(const char *word, size_t length, const char *name) { return length == strlen(name) && !memcmp(word, name, length); }
+
+static void play(char *row)
+{
+    size_t length = strcspn(row, " ");
+    char *rest = row + length;
+    if (is(row, length, "case")) {
+        begin_case(rest + 1);
+        return;
+    }
+    if (!cases)
+        malformed("no case has begun");
+    if (is(row, length, "address")) {
+        own = (uint32_t)number(&rest);
+    } else if (is(row, length, "frame")) {
+        size_t count = strlen(rest) / 3;
+        if (awaited)
+            malformed("the frame before has no reply");
+        fill(&record, count, 0);
+        lay(&record, 0, rest);
+        awaited = 1;
+    } else if (is(row, length, "reply")) {
+        if (!awaited)
+            malformed("no frame has come");
+        unsigned long n = number(&rest);
+        send(n, number(&rest));
+    } else {
+        for (size_t i = 0; i < 4; i++) {
+            if (is(row + 1, length - 1, areas[i]->name + 1) && (row[0] | 32) == areas[i]->name[0]) {
+                size_t n = number(&rest);
+                if (row[0] == areas[i]->name[0])
+                    lay(areas[i], n, rest);
+                else
+                    fill(areas[i], n, byte(&rest));
+                return;
+            }
+        }
+        malformed("a word that is none");
+    }
+}
+
+int main(void)
+{
+    static char row[8192];
+    while (fgets(row, sizeof row, stdin)) {
+        row_number++;
+        row[strcspn(row, "\n")] = 0;
+        if (row[0] && row[0] != '#')
+            play(row);
+    }
+    end_case();
+    printf("%d cases, %d frames: %s\n", cases, frames, failed ? "FAILED" : "nothing differs");
+    return failed || !cases;
+}
