@@ -1,11 +1,11 @@
 -- Data and the bytes that it holds: each is read off the other.
-use Prim.Native.Nat.{ℕ, suc, _+_, _-_, _<_, _≤_}
+use Prim.Native.Nat.{ℕ, suc, _+_, _-_, _<_, _≤_, min}
 use mathlib.Core.Path.{_≡_, refl, sym, ap, _∙_}
 use mathlib.Core.Bool.{Bool, true, false, cond, _&&_, and-eq-true-iff}
 use mathlib.Core.List.{List, [], _∷_, _++_}
 use native.Mathlib.Omega.{arith}
-use lib.ListN.{length, getD, take, drop, replicate, length-drop}
-use lib.Seq.{length-take-le, take-at, drop-at, getD-drop}
+use lib.ListN.{length, getD, take, drop, replicate, length-take, length-drop}
+use lib.Seq.{length-take-le, take-at, drop-at, getD-take, getD-drop}
 use lib.Dec.{leb, ltb}
 use borrow.Author.Tests.{leb-true, le-leb}
 use Rattle.laws.specs.Bytes.{zeros, padded}
@@ -93,6 +93,14 @@ pub data-taken : (n : ℕ) (l : List ℕ) → n ≤ length l
 unfolding dataOf
 data-taken n l h =
     simp (length-take-le n l h, byte-taken n l 0, byte-taken n l 1, byte-taken n l 2, byte-taken n l 3, byte-taken n l 4, byte-taken n l 5)
+
+-- the front of a list, place by place
+pub data-front : (l : List ℕ)
+    → dataOf (take 6 l)
+    ≡ record { len = min 6 (length l); b0 = getD l 0 0; b1 = getD l 1 0; b2 = getD l 2 0; b3 = getD l 3 0; b4 = getD l 4 0; b5 = getD l 5 0 }
+unfolding dataOf
+data-front l =
+    simp (length-take 6 l, getD-take 6 l 0 0 (omega arith), getD-take 6 l 1 0 (omega arith), getD-take 6 l 2 0 (omega arith), getD-take 6 l 3 0 (omega arith), getD-take 6 l 4 0 (omega arith), getD-take 6 l 5 0 (omega arith))
 
 -- the places behind the bytes, by the one that the length is at, and by one behind it
 pub rest-at : (k : ℕ) (d : Data) → d .len ≡ k → zeros (drop k (placesOf d)) ≡ true → zeros (drop (d .len) (placesOf d)) ≡ true

@@ -1,26 +1,17 @@
 // Data and the bytes that it holds.
 ghost use mathlib.Core.Path.{_≡_};
 ghost use mathlib.Core.List.{[]};
-ghost use Prim.Native.Nat.{_≤_};
-ghost use lib.ListN.{length, take};
+ghost use Prim.Native.Nat.{min};
+ghost use lib.ListN.{take};
 ghost use Rattle.codec.specs.Reading.{dataOf};
 ghost use Rattle.codec.specs.Writing.{placesOf};
 use crate::Data;
 use crate::octets::byte_at;
 
-pub(crate) fn data_of(bytes: &[u8]) -> Data
-    requires { ⌜ length (now bytes) ≤ 6 ⌝ }
-    ensures { λ r. ⌜ r ≡ dataOf (now (bytes .entry)) ⌝ }
+fn least_of_six(n: usize) -> u8
+    ensures { λ r. ⌜ r ≡ min 6 n ⌝ }
 {
-    Data {
-        len: bytes.len() as u8,
-        b0: byte_at(bytes, 0),
-        b1: byte_at(bytes, 1),
-        b2: byte_at(bytes, 2),
-        b3: byte_at(bytes, 3),
-        b4: byte_at(bytes, 4),
-        b5: byte_at(bytes, 5),
-    }
+    if 6 < n { 6 } else { n as u8 }
 }
 
 pub(crate) fn no_data() -> Data
@@ -41,10 +32,15 @@ pub(crate) fn no_data() -> Data
 pub fn data_from(bytes: &[u8]) -> Data
     ensures { λ r. ⌜ r ≡ dataOf (take 6 (now (bytes .entry))) ⌝ }
 {
-    if 6 < bytes.len() {
-        return data_of(&bytes[0..6]);
+    Data {
+        len: least_of_six(bytes.len()),
+        b0: byte_at(bytes, 0),
+        b1: byte_at(bytes, 1),
+        b2: byte_at(bytes, 2),
+        b3: byte_at(bytes, 3),
+        b4: byte_at(bytes, 4),
+        b5: byte_at(bytes, 5),
     }
-    data_of(bytes)
 }
 
 // The six places of data: the first len of them are its bytes.

@@ -100,7 +100,7 @@ fn read_plan(table: &[u8], h: Header) -> Plan
     Plan::Error { number: 10, object }
 }
 
-// Checks 7 to 13: what a Request with this header asks for. Of one that passes checks 3 to 6 this is what 01's list gives (`request-by-service`).
+// Checks 7 to 13: what a Request with this header asks for. Of one that passes checks 3 to 6 this is what 01's list gives (`plan-request`).
 pub fn request_plan(frame: &[u8], h: Header, table: &[u8]) -> Plan
     ensures { λ r. ⌜ r ≡ planByService (now (table .entry)) h (now (frame .entry)) ⌝ }
 {
