@@ -12,14 +12,14 @@ use lib.Dec.{leb}
 use borrow.Author.Tests.{eq-eqb, leb-true, le-leb}
 use Rattle.laws.specs.Put.{put}
 use Rattle.laws.proofs.Put.{put-nothing, put-front, part-back}
+use Rattle.octets.specs.declared.Data.{Data}
+use Rattle.octets.specs.Data.{dataOf}
+use Rattle.octets.proofs.Datas.{data-taken, tidy-data}
 use Rattle.codec.specs.declared.Header.{Header}
 use Rattle.codec.specs.declared.Message.the-variants.{Plain}
 use Rattle.codec.specs.declared.Subject.{Subject}
-use Rattle.codec.specs.declared.Data.{Data}
-use Rattle.codec.specs.Reading.{dataOf}
 use Rattle.codec.specs.Writing.{frameOf, imageOf}
 use Rattle.codec.specs.Code.{longPlaces, putLong}
-use Rattle.codec.proofs.Datas.{data-taken, tidy-data}
 use Rattle.codec.proofs.Fits.{subject-fits}
 use Rattle.codec.proofs.Images.{places-are-image}
 use Rattle.guest.specs.Step.{answering, fragmentFrame, fragmentFrames, readFrames, flat, sent}

@@ -5,8 +5,8 @@ use mathlib.Core.List.{List, []}
 use lib.ListN.{length}
 use lib.Dec.{leb}
 use Rattle.laws.specs.Put.{put}
+use Rattle.octets.specs.Data.{dataOf}
 use Rattle.codec.specs.declared.Header.{Header}
-use Rattle.codec.specs.Reading.{dataOf}
 use Rattle.codec.specs.Code.{longPlaces}
 use Rattle.guest.specs.Step.{answering, readFrames, sent}
 

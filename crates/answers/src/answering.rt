@@ -5,8 +5,8 @@ ghost use mathlib.Core.List.{[], _∷_};
 ghost use Prim.Native.Nat.{_+_, _*_, _/_, _≤_, _<_};
 ghost use lib.ListN.{length};
 ghost use Rattle.laws.specs.Put.{put};
-ghost use Rattle.codec.specs.Reading.{dataOf};
-ghost use Rattle.codec.specs.Writing.{tidy, imageOf, subjectFits};
+ghost use Rattle.octets.specs.Data.{dataOf, tidy};
+ghost use Rattle.codec.specs.Writing.{imageOf, subjectFits};
 ghost use Rattle.codec.specs.Code.{longPlaces};
 ghost use Rattle.codec.specs.declared.Message.the-variants.{Plain, Fragment};
 ghost use Rattle.guest.specs.Step.{answering as Step·answering, fragmentFrame, fragmentFrames, readFrames, sent};
@@ -27,7 +27,7 @@ fn answering(own: u8, h: codec::Header, response: u8) -> codec::Subject
 }
 
 // Frame n of the reply.
-fn send(about: codec::Subject, flag: u8, payload: codec::Data, n: usize, out: &mut [u8])
+fn send(about: codec::Subject, flag: u8, payload: octets::Data, n: usize, out: &mut [u8])
     requires { ⌜ n * 10 + 10 ≤ length (now out) ⌝ }
     ensures { λ _. ⌜ now (out .exit) ≡ put (now (out .entry)) (n * 10) (longPlaces about flag payload) ⌝ }
 {
@@ -46,7 +46,7 @@ pub fn send_bare(own: u8, h: codec::Header, response: u8, out: &mut [u8])
     send(
         answering(own, h, response),
         0,
-        codec::data_from(b""),
+        octets::data_from(b""),
         0,
         out,
     );
@@ -58,12 +58,12 @@ fn send_plain(own: u8, h: codec::Header, bytes: &[u8], out: &mut [u8])
     ensures { λ _. ⌜ now (out .exit) ≡ sent (imageOf (Plain (Step·answering own h 1) (dataOf (now (bytes .entry)))) ∷ []) (now (out .entry)) ⌝ }
 {
     let about = answering(own, h, 1);
-    let body = codec::data_from(bytes);
+    let body = octets::data_from(bytes);
     send(about, 0, body, 0, out);
 }
 
 // Fragment n of a reply of so many bytes, with its data.
-fn send_piece(about: codec::Subject, n: usize, total: usize, body: codec::Data, out: &mut [u8])
+fn send_piece(about: codec::Subject, n: usize, total: usize, body: octets::Data, out: &mut [u8])
     requires { ⌜ (subjectFits about ≡ true) × (n ≤ 255) × (total ≤ 255) × (tidy 4 body ≡ true) × (n * 10 + 10 ≤ length (now out)) ⌝ }
     ensures { λ _. ⌜ now (out .exit) ≡ put (now (out .entry)) (n * 10) (imageOf (Fragment about n total body)) ⌝ }
 {
@@ -82,7 +82,7 @@ fn send_full(about: codec::Subject, part: &[u8], n: usize, out: &mut [u8])
     ensures { λ _. ⌜ now (out .exit) ≡ put (now (out .entry)) (n * 10) (fragmentFrame about (now (part .entry)) n) ⌝ }
 {
     let start = 4 * n;
-    let body = codec::Data {
+    let body = octets::Data {
         len: 4,
         b0: part[start],
         b1: part[start + 1],
@@ -100,7 +100,7 @@ fn send_rest(about: codec::Subject, part: &[u8], n: usize, out: &mut [u8])
     ensures { λ _. ⌜ now (out .exit) ≡ put (now (out .entry)) (n * 10) (fragmentFrame about (now (part .entry)) n) ⌝ }
 {
     let start = 4 * n;
-    let body = codec::data_from(&part[start..]);
+    let body = octets::data_from(&part[start..]);
     send_piece(about, n, part.len(), body, out);
 }
 

@@ -11,13 +11,13 @@ use borrow.Author.Tests.{ltb-false, eqb-true, eqb-false, eq-eqb, ne-eqb, le-leb,
 use Rattle.laws.specs.Checks.{firstOf, holdsAt}
 use Rattle.laws.proofs.Tests.{split, not-both}
 use Rattle.laws.proofs.Checks.{none-holds}
+use Rattle.octets.specs.declared.Data.{Data}
+use Rattle.octets.specs.Data.{dataOf, tidy, bytesOf}
+use Rattle.octets.proofs.Datas.{bytes-data, tidy-data}
 use Rattle.codec.specs.declared.Header.{Header}
-use Rattle.codec.specs.declared.Data.{Data}
 use Rattle.codec.specs.Fields.{headerOf}
-use Rattle.codec.specs.Reading.{headerChecks, readChecks, barred, unserved, cramped, dataOf, payloadOf}
-use Rattle.codec.specs.Writing.{tidy, bytesOf}
+use Rattle.codec.specs.Reading.{headerChecks, readChecks, barred, unserved, cramped, payloadOf}
 use Rattle.codec.specs.Code.{payloadData}
-use Rattle.codec.proofs.Datas.{bytes-data, tidy-data}
 
 -- every field of a header is within its bits, whatever the record
 pub record Ranged (h : Header) : Type 0 where

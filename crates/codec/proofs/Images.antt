@@ -4,17 +4,18 @@ use mathlib.Core.Path.{_≡_, refl, sym, ap, _∙_}
 use mathlib.Core.Bool.{true}
 use mathlib.Core.List.{List, [], _∷_, _++_}
 use native.Mathlib.Omega.{arith}
-use lib.ListN.{length, replicate}
+use lib.ListN.{length, drop, replicate, length-drop}
+use lib.Seq.{getD-drop}
 use Rattle.laws.specs.Bytes.{padded}
 use Rattle.laws.proofs.Bytes.{length-padded}
+use Rattle.octets.specs.declared.Data.{Data}
+use Rattle.octets.specs.Data.{dataOf, placesOf, bytesOf, tidy}
+use Rattle.octets.proofs.Datas.{tidy-most, tidy-more, tidy-data, bytes-data, bytes-length, bytes-padded, byte-place}
 use Rattle.codec.specs.declared.Subject.{Subject}
-use Rattle.codec.specs.declared.Data.{Data}
 use Rattle.codec.specs.declared.Message.the-variants.{Plain, Fragment}
-use Rattle.codec.specs.Reading.{dataOf}
-use Rattle.codec.specs.Writing.{placesOf, bytesOf, tidy, subjectFits, longFrame, frameOf, imageOf}
-use Rattle.codec.specs.Code.{prefixed, longPlaces}
+use Rattle.codec.specs.Writing.{subjectFits, longFrame, frameOf, imageOf}
+use Rattle.codec.specs.Code.{prefixed, unprefixed, longPlaces}
 use Rattle.codec.proofs.Fits.{subject-fits}
-use Rattle.codec.proofs.Datas.{tidy-most, tidy-more, tidy-data, bytes-data, bytes-length, bytes-padded, byte-place}
 
 -- four bytes, then what stands behind the ID, padded
 pub long-padded : (u : Subject) (flag : ℕ) (p : List ℕ) → length p ≤ 6
@@ -73,3 +74,9 @@ prefixed-is n k d t =
     let s = tidy-more 4 6 d (omega arith) t in
     let e : suc (suc (length (bytesOf d))) ≡ d .len % 8 + 2 = omega (arith, bytes-length d s, tidy-most 4 d t) in
     simp (e, byte-place d s 0, byte-place d s 1, byte-place d s 2, byte-place d s 3)
+
+-- and the way back
+pub data-unprefixed : (d : Data) → tidy 6 d ≡ true → unprefixed d ≡ dataOf (drop 2 (bytesOf d))
+unfolding dataOf unprefixed
+data-unprefixed d t =
+    simp (length-drop, bytes-length d t, getD-drop 2 (bytesOf d), byte-place d t 2, byte-place d t 3, byte-place d t 4, byte-place d t 5, byte-place d t 6, byte-place d t 7)

@@ -1,6 +1,5 @@
 pub mod Examples
 pub mod Headers
-pub mod Datas
 pub mod Fits
 pub mod Images
 pub mod Long

@@ -11,21 +11,22 @@ use borrow.Author.Tests.{eqb-true, eqb-false, eq-eqb, ne-eqb, le-ltb, le-leb, lt
 use Rattle.laws.specs.Bytes.{byteAt, padded}
 use Rattle.laws.specs.Checks.{firstOf}
 use Rattle.laws.proofs.Tests.{tests, split}
+use Rattle.octets.specs.declared.Data.{Data}
+use Rattle.octets.specs.Data.{dataOf, bytesOf, tidy}
+use Rattle.octets.proofs.Datas.{bytes-data, tidy-data, data-bytes, byte-place}
 use Rattle.codec.specs.declared.Header.{Header}
 use Rattle.codec.specs.declared.Subject.{Subject}
-use Rattle.codec.specs.declared.Data.{Data}
 use Rattle.codec.specs.declared.Answer.{Answer}
 use Rattle.codec.specs.declared.Answer.the-variants.{Got, Refused}
 use Rattle.codec.specs.declared.Message.{Message}
 use Rattle.codec.specs.declared.Message.the-variants.{Short, Plain, Fragment}
 use Rattle.codec.specs.Fields.{headerOf}
-use Rattle.codec.specs.Reading.{headerChecks, readChecks, subjectOf, dataOf, payloadOf, longOf, messageOf, readOf}
-use Rattle.codec.specs.Writing.{bytesOf, tidy, subjectFits, longFrame, frameOf, carried}
+use Rattle.codec.specs.Reading.{headerChecks, readChecks, subjectOf, payloadOf, longOf, messageOf, readOf}
+use Rattle.codec.specs.Writing.{subjectFits, longFrame, frameOf, carried}
 use Rattle.codec.specs.Code.{payloadData, unprefixed}
 use Rattle.codec.proofs.Headers.{long-passes, behind}
-use Rattle.codec.proofs.Datas.{bytes-data, tidy-data, data-bytes, data-unprefixed, byte-place}
 use Rattle.codec.proofs.Fits.{SubjectFits}
-use Rattle.codec.proofs.Images.{long-padded, long-length}
+use Rattle.codec.proofs.Images.{long-padded, long-length, data-unprefixed}
 
 -- a record that no check refuses is read
 pub got : (r : List ℕ) → length r ≡ 10 → firstOf (headerChecks (headerOf r)) ≡ 0 → readOf r ≡ Got (messageOf r)

@@ -13,19 +13,17 @@ use Rattle.laws.specs.Bytes.{Bytes, padded}
 use Rattle.laws.specs.Checks.{firstOf, holdsAt}
 use Rattle.laws.proofs.Tests.{split}
 use Rattle.laws.proofs.Checks.{FirstAt, given-exactly, none-holds}
+use Rattle.octets.specs.declared.Data.{Data}
+use Rattle.octets.specs.Data.{bytesOf, tidy}
 use Rattle.codec.specs.declared.Answer.the-variants.{Got, Refused}
 use Rattle.codec.specs.declared.Subject.{Subject}
-use Rattle.codec.specs.declared.Data.{Data}
 use Rattle.codec.specs.declared.Message.{Message}
 use Rattle.codec.specs.Fields.{headerOf}
 use Rattle.codec.specs.Reading.{readOf, readChecks, numberOf}
-use Rattle.codec.specs.Writing.{Octets, bytesOf, tidy, subjectFits, carried, longFrame, imageOf, writeChecks, writeNumber, writtenOf, clearedOf}
+use Rattle.codec.specs.Writing.{Octets, subjectFits, carried, longFrame, imageOf, writeChecks, writeNumber, writtenOf, clearedOf}
 use Rattle.codec.specs.Code.{putLong}
 use Rattle.codec.proofs.Images.{places-are-image}
 use Rattle.codec.proofs.Trips.{written, written-read, read-written, read-is-carried, image-octets}
-use Rattle.codec.proofs.bodies.data_from.Reads as data-from
-use Rattle.codec.proofs.bodies.places_of.Reads as places-of
-use Rattle.codec.proofs.octets.byte_at.Reads as byte-at
 use Rattle.codec.proofs.heading.header_of.Reads as header-of
 use Rattle.codec.proofs.reading.payload_of.Reads as payload-of
 use Rattle.codec.proofs.reading.refusal_of.Reads as refusal-of
@@ -109,15 +107,6 @@ put-is-written u flag d r f g t n = simp (eq-eqb (length r) 10 n) (places-are-im
 pub header-determined : (κs : _) (args : _) (r r' : _) (s s' : _) → header-of.Post κs args r s → header-of.Post κs args r' s' → r ≡ r'
 header-determined κs args r r' s s' p q = p ∙ sym q
 
-pub data-determined : (κs : _) (args : _) (r r' : _) (s s' : _) → data-from.Post κs args r s → data-from.Post κs args r' s' → r ≡ r'
-data-determined κs args r r' s s' p q = p ∙ sym q
-
-pub byte-determined : (κs : _) (args : _) (r r' : _) (s s' : _) → byte-at.Post κs args r s → byte-at.Post κs args r' s' → r ≡ r'
-byte-determined κs args r r' s s' p q = p ∙ sym q
-
-pub places-determined : (κs : _) (args : _) (r r' : _) (s s' : _) → places-of.Post κs args r s → places-of.Post κs args r' s' → r ≡ r'
-places-determined κs args r r' s s' p q = p ∙ sym q
-
 pub payload-determined : (κs : _) (args : _) (r r' : _) (s s' : _) → payload-of.Post κs args r s → payload-of.Post κs args r' s' → r ≡ r'
 payload-determined κs args r r' s s' p q = p ∙ sym q
 
@@ -147,15 +136,6 @@ write-determined κs args r r' s s' p q = (p .0 ∙ sym (q .0), p .1 ∙ sym (q 
 
 pub header-asks-nothing : (κs : _) (args : _) → header-of.Asked κs args
 header-asks-nothing κs args = tt
-
-pub data-asks-nothing : (κs : _) (args : _) → data-from.Asked κs args
-data-asks-nothing κs args = tt
-
-pub byte-asks-nothing : (κs : _) (args : _) → byte-at.Asked κs args
-byte-asks-nothing κs args = tt
-
-pub places-asks-nothing : (κs : _) (args : _) → places-of.Asked κs args
-places-asks-nothing κs args = tt
 
 pub payload-asks-nothing : (κs : _) (args : _) → payload-of.Asked κs args
 payload-asks-nothing κs args = tt

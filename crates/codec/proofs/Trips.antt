@@ -12,18 +12,19 @@ use Rattle.laws.specs.Bytes.{Bytes, padded}
 use Rattle.laws.specs.Checks.{firstOf}
 use Rattle.laws.proofs.Tests.{split}
 use Rattle.laws.proofs.Bytes.{bytes-nil, bytes-cons, bytes-padded, bytes-take}
+use Rattle.octets.specs.declared.Data.{Data}
+use Rattle.octets.specs.Data.{dataOf, placesOf, bytesOf, tidy}
+use Rattle.octets.proofs.Datas.{tidy-most, tidy-more, tidy-data, bytes-length, data-bytes}
 use Rattle.codec.specs.declared.Header.{Header}
 use Rattle.codec.specs.declared.Subject.{Subject}
-use Rattle.codec.specs.declared.Data.{Data}
 use Rattle.codec.specs.declared.Answer.{Answer}
 use Rattle.codec.specs.declared.Answer.the-variants.{Got, Refused}
 use Rattle.codec.specs.declared.Message.{Message}
 use Rattle.codec.specs.declared.Message.the-variants.{Short, Plain, Fragment}
 use Rattle.codec.specs.Fields.{headerOf}
-use Rattle.codec.specs.Reading.{headerChecks, readChecks, subjectOf, shortOf, dataOf, longOf, messageOf, readOf}
-use Rattle.codec.specs.Writing.{Octets, placesOf, bytesOf, tidy, subjectFits, shortFits, canHeader, longFrame, frameOf, imageOf, carried, clearedOf, writeNumber, writtenOf}
+use Rattle.codec.specs.Reading.{headerChecks, readChecks, subjectOf, shortOf, longOf, messageOf, readOf}
+use Rattle.codec.specs.Writing.{Octets, subjectFits, shortFits, canHeader, longFrame, frameOf, imageOf, carried, clearedOf, writeNumber, writtenOf}
 use Rattle.codec.proofs.Headers.{Ranged, ranged, passed, Long, long-of}
-use Rattle.codec.proofs.Datas.{tidy-most, tidy-more, tidy-data, bytes-length, data-bytes}
 use Rattle.codec.proofs.Fits.{SubjectFits, subject-fits, ShortFits, short-fits}
 use Rattle.codec.proofs.Images.{long-length}
 use Rattle.codec.proofs.Long.{Shape, got, message-long, long-read, long-back, long-carried}

@@ -5,11 +5,11 @@ use mathlib.Core.Bool.{cond, _&&_}
 use mathlib.Core.List.{List, [], _∷_, _++_}
 use lib.ListN.{length}
 use lib.Dec.{eqb, leb}
+use Rattle.octets.specs.declared.Data.{Data}
+use Rattle.octets.specs.Data.{dataOf, placesOf}
 use Rattle.codec.specs.declared.Subject.{Subject}
-use Rattle.codec.specs.declared.Data.{Data}
 use Rattle.codec.specs.Fields.{headerOf}
-use Rattle.codec.specs.Reading.{dataOf, payloadOf}
-use Rattle.codec.specs.Writing.{placesOf}
+use Rattle.codec.specs.Reading.{payloadOf}
 
 -- what stands behind the ID of a record of ten bytes; of another record, or one with a DLC over 8, none of it
 unfoldable pub payloadData : List ℕ → Data

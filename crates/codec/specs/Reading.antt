@@ -6,9 +6,9 @@ use lib.ListN.{length, getD, take, drop}
 use lib.Dec.{ltb, leb, eqb}
 use Rattle.laws.specs.Bytes.{byteAt}
 use Rattle.laws.specs.Checks.{Check, firstOf}
+use Rattle.octets.specs.Data.{dataOf}
 use Rattle.codec.specs.declared.Header.{Header}
 use Rattle.codec.specs.declared.Subject.{Subject}
-use Rattle.codec.specs.declared.Data.{Data}
 use Rattle.codec.specs.declared.Message.{Message}
 use Rattle.codec.specs.declared.Message.the-variants.{Short, Plain, Fragment}
 use Rattle.codec.specs.declared.Answer.{Answer}
@@ -42,18 +42,6 @@ subjectOf h = record {
   response = h .response;
   object = h .object;
   id = h .id;
-}
-
--- up to six bytes; the places that they do not use hold 0
-unfoldable pub dataOf : List ℕ → Data
-dataOf l = record {
-  len = length l;
-  b0 = byteAt l 0;
-  b1 = byteAt l 1;
-  b2 = byteAt l 2;
-  b3 = byteAt l 3;
-  b4 = byteAt l 4;
-  b5 = byteAt l 5;
 }
 
 -- the DLC counts bytes from byte 2 on: what stands behind the ID is its last DLC - 2

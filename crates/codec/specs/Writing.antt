@@ -6,22 +6,11 @@ use lib.ListN.{length, take, drop}
 use lib.Dec.{leb, eqb}
 use Rattle.laws.specs.Checks.{Check, firstOf}
 use Rattle.laws.specs.Bytes.{Bytes, zeros, padded}
+use Rattle.octets.specs.Data.{placesOf, bytesOf, tidy}
 use Rattle.codec.specs.declared.Subject.{Subject}
-use Rattle.codec.specs.declared.Data.{Data}
 use Rattle.codec.specs.declared.Message.{Message}
 use Rattle.codec.specs.declared.Message.the-variants.{Short, Plain, Fragment}
 use Rattle.codec.specs.Fields.{headerOf}
-
--- the six places of data, and the bytes among them that count
-abbrev pub placesOf : Data → List ℕ
-placesOf d = d .b0 ∷ d .b1 ∷ d .b2 ∷ d .b3 ∷ d .b4 ∷ d .b5 ∷ []
-
-unfoldable pub bytesOf : Data → List ℕ
-bytesOf d = take (d .len) (placesOf d)
-
--- at most so many bytes, and 0 in each place that they do not use
-unfoldable pub tidy : ℕ → Data → Bool
-tidy most d = leb (d .len) most && zeros (drop (d .len) (placesOf d))
 
 -- Dir/Pri {0,1}, address {0 .. 125}, services 4 to 7, Request/Response {0 .. 3}, object {0 .. 31}; any ID
 unfoldable pub subjectFits : Subject → Bool

@@ -2,7 +2,7 @@
 ghost use mathlib.Core.Path.{_≡_};
 ghost use Rattle.codec.specs.Fields.{headerOf};
 use crate::Header;
-use crate::octets::byte_at;
+use octets::byte_at;
 
 // The fields of the first four bytes. A byte that the record lacks counts as 0.
 pub fn header_of(frame: &[u8]) -> Header

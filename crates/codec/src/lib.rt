@@ -1,14 +1,9 @@
 // The codec: frame records of ten bytes to messages and back (01, "Frame record"; 000, 3.2).
-mod bodies;
 mod heading;
-mod octets;
 mod reading;
 mod writing;
 
-pub use bodies::data_from;
-pub use bodies::places_of;
 pub use heading::header_of;
-pub use octets::byte_at;
 pub use reading::payload_of;
 pub use reading::read;
 pub use reading::refusal_of;
@@ -41,17 +36,6 @@ pub struct Subject {
     pub id: u8,
 }
 
-// len data bytes, at most six. A place that is not used holds 0.
-pub struct Data {
-    pub len: u8,
-    pub b0: u8,
-    pub b1: u8,
-    pub b2: u8,
-    pub b3: u8,
-    pub b4: u8,
-    pub b5: u8,
-}
-
 pub enum Message {
     // DLC 0: Dir/Pri, address and service type are the whole message.
     Short {
@@ -62,14 +46,14 @@ pub enum Message {
     // The flag is clear: up to six data bytes.
     Plain {
         about: Subject,
-        body: Data,
+        body: octets::Data,
     },
     // The flag is set: the fragment's number, the total byte count, and up to four data bytes.
     Fragment {
         about: Subject,
         number: u8,
         total: u8,
-        body: Data,
+        body: octets::Data,
     },
 }
 

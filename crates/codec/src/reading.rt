@@ -5,16 +5,16 @@ ghost use Prim.Native.Nat.{_≤_};
 ghost use lib.Dec.{ltb};
 ghost use lib.ListN.{length, take, drop};
 ghost use Rattle.laws.specs.Checks.{firstOf};
-ghost use Rattle.codec.specs.Reading.{headerChecks, readChecks, subjectOf, dataOf, longOf, readOf};
-ghost use Rattle.codec.specs.Writing.{tidy, bytesOf};
+ghost use Rattle.octets.specs.Data.{dataOf, tidy, bytesOf};
+ghost use Rattle.codec.specs.Reading.{headerChecks, readChecks, subjectOf, longOf, readOf};
 ghost use Rattle.codec.specs.Code.{payloadData, unprefixed as Code·unprefixed};
 use crate::Answer;
-use crate::Data;
 use crate::Header;
 use crate::Message;
 use crate::Subject;
-use crate::bodies::no_data;
 use crate::heading::header_of;
+use octets::Data;
+use octets::no_data;
 
 // Why a record of ten bytes with this header is refused; 0 where it is read. The order is 01's.
 fn refusal(h: Header) -> u8

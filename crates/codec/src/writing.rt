@@ -1,66 +1,15 @@
 // Writing: a message to the ten bytes of a record that carries it.
 ghost use mathlib.Core.Path.{_≡_};
 ghost use mathlib.Core.Bool.{true, _&&_};
-ghost use Prim.Native.Nat.{_≤_};
-ghost use lib.ListN.{length, drop};
-ghost use Rattle.laws.specs.Bytes.{zeros, padded};
-ghost use Rattle.codec.specs.Writing.{placesOf, tidy as Writing·tidy, subjectFits, shortFits, carried as Writing·carried, canHeader, imageOf, writeNumber, writtenOf};
+ghost use lib.ListN.{length};
+ghost use Rattle.laws.specs.Bytes.{padded};
+ghost use Rattle.octets.specs.Data.{tidy};
+ghost use Rattle.codec.specs.Writing.{subjectFits, shortFits, carried as Writing·carried, canHeader, imageOf, writeNumber, writtenOf};
 ghost use Rattle.codec.specs.Code.{prefixed as Code·prefixed, putLong};
-use crate::Data;
 use crate::Message;
 use crate::Subject;
-
-// Whether each place that the bytes leave unused is 0: from the last place down to the length.
-fn rest_is_zero(d: Data) -> bool
-    requires { ⌜ d .len ≤ 6 ⌝ }
-    ensures { λ r. ⌜ r ≡ zeros (drop (d .len) (placesOf d)) ⌝ }
-{
-    if d.len == 6 {
-        return true;
-    }
-    if d.b5 != 0 {
-        return false;
-    }
-    if d.len == 5 {
-        return true;
-    }
-    if d.b4 != 0 {
-        return false;
-    }
-    if d.len == 4 {
-        return true;
-    }
-    if d.b3 != 0 {
-        return false;
-    }
-    if d.len == 3 {
-        return true;
-    }
-    if d.b2 != 0 {
-        return false;
-    }
-    if d.len == 2 {
-        return true;
-    }
-    if d.b1 != 0 {
-        return false;
-    }
-    if d.len == 1 {
-        return true;
-    }
-    d.b0 == 0
-}
-
-// At most so many bytes, and 0 in each place that they leave unused.
-fn tidy(most: u8, d: Data) -> bool
-    requires { ⌜ most ≤ 6 ⌝ }
-    ensures { λ r. ⌜ r ≡ Writing·tidy most d ⌝ }
-{
-    if most < d.len {
-        return false;
-    }
-    rest_is_zero(d)
-}
+use octets::Data;
+use octets::is_tidy;
 
 fn subject_fits(u: Subject) -> bool
     ensures { λ r. ⌜ r ≡ subjectFits u ⌝ }
@@ -102,11 +51,10 @@ fn short_fits(dir: u8, address: u8, service: u8) -> bool
 }
 
 fn long_fits(u: Subject, most: u8, d: Data) -> bool
-    requires { ⌜ most ≤ 6 ⌝ }
-    ensures { λ r. ⌜ r ≡ subjectFits u && Writing·tidy most d ⌝ }
+    ensures { λ r. ⌜ r ≡ subjectFits u && tidy most d ⌝ }
 {
     if subject_fits(u) {
-        return tidy(most, d);
+        return is_tidy(most, d);
     }
     false
 }

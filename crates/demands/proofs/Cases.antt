@@ -5,9 +5,10 @@ use mathlib.Core.List.{List, [], _∷_, map, flatMap}
 use lib.ListN.{take}
 use Rattle.laws.specs.Put.{put}
 use Rattle.laws.specs.Mixing.{run}
+use Rattle.octets.specs.Data.{dataOf, bytesOf}
 use Rattle.codec.specs.Fields.{headerOf}
-use Rattle.codec.specs.Reading.{dataOf, longOf, messageOf}
-use Rattle.codec.specs.Writing.{bytesOf, longFrame, frameOf, imageOf}
+use Rattle.codec.specs.Reading.{longOf, messageOf}
+use Rattle.codec.specs.Writing.{longFrame, frameOf, imageOf}
 use Rattle.table.specs.Descriptor.{sizeBy, descriptorSize}
 use Rattle.table.specs.Table.{attributeOf, attributes, entryFits, wellFrom, wellFormed, findIn, find}
 use Rattle.join.specs.Work.{load, astray, joined, areaAfter}

@@ -12,15 +12,16 @@ use lib.Dec.{leb}
 use Rattle.laws.specs.Bytes.{Bytes}
 use Rattle.laws.specs.Put.{put}
 use Rattle.laws.proofs.Put.{length-put, put-front}
+use Rattle.octets.specs.declared.Data.{Data}
+use Rattle.octets.specs.Data.{dataOf, bytesOf}
 use Rattle.codec.specs.declared.Header.{Header}
-use Rattle.codec.specs.declared.Data.{Data}
 use Rattle.codec.specs.declared.Answer.the-variants.{Got}
 use Rattle.codec.specs.declared.Message.{Message}
 use Rattle.codec.specs.declared.Message.the-variants.{Plain, Fragment}
 use Rattle.codec.specs.Names.{successful, erroneous}
 use Rattle.codec.specs.Fields.{headerOf}
-use Rattle.codec.specs.Reading.{dataOf, readOf}
-use Rattle.codec.specs.Writing.{bytesOf, writeNumber, writtenOf, clearedOf}
+use Rattle.codec.specs.Reading.{readOf}
+use Rattle.codec.specs.Writing.{writeNumber, writtenOf, clearedOf}
 use Rattle.codec.proofs.Promises as codec
 use Rattle.table.specs.declared.Attribute.{Attribute}
 use Rattle.table.specs.declared.Found.the-variants.{At}

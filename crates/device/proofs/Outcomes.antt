@@ -9,12 +9,12 @@ use lib.Dec.{ltb}
 use borrow.Author.Tests.{leb-true, lt-ltb}
 use Rattle.laws.specs.Put.{put}
 use Rattle.laws.proofs.Put.{put-nothing}
-use Rattle.codec.specs.declared.Data.{Data}
+use Rattle.octets.specs.declared.Data.{Data}
+use Rattle.octets.specs.Data.{dataOf, placesOf, bytesOf}
 use Rattle.codec.specs.declared.Message.the-variants.{Plain}
 use Rattle.codec.specs.Names.{successful, erroneous}
 use Rattle.codec.specs.Fields.{headerOf}
-use Rattle.codec.specs.Reading.{dataOf}
-use Rattle.codec.specs.Writing.{placesOf, bytesOf, imageOf}
+use Rattle.codec.specs.Writing.{imageOf}
 use Rattle.table.specs.declared.Attribute.{Attribute}
 use Rattle.join.specs.Work.{Joined, kept, done, lost, base, load, astray, last, joined, areaAfter}
 use Rattle.join.proofs.Parts.{astray-any, held-part}

@@ -10,10 +10,10 @@ use borrow.Author.Tests.{eqb-true, ltb-false, leb-false}
 use Rattle.laws.specs.Checks.{firstOf, holdsAt}
 use Rattle.laws.proofs.Tests.{split}
 use Rattle.laws.proofs.Checks.{given-exactly, none-holds}
+use Rattle.octets.proofs.Datas.{tidy-most, bytes-length}
 use Rattle.codec.specs.declared.Header.{Header}
 use Rattle.codec.specs.Fields.{headerOf}
 use Rattle.codec.proofs.Headers.{ranged}
-use Rattle.codec.proofs.Datas.{tidy-most, bytes-length}
 use Rattle.guest.specs.declared.Plan.{Plan}
 use Rattle.guest.specs.declared.Plan.the-variants.{Quiet, Error, Read, Write, Join}
 use Rattle.guest.specs.Checks.{Setting, misfit, noService, planChecks}

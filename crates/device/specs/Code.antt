@@ -3,9 +3,9 @@ use Prim.Native.Nat.{ℕ, _+_, _*_, _≤_}
 use mathlib.Core.Path.{_≡_}
 use mathlib.Core.List.{List, _++_}
 use lib.ListN.{take, drop}
+use Rattle.octets.specs.declared.Data.{Data}
+use Rattle.octets.specs.Data.{bytesOf}
 use Rattle.codec.specs.declared.Header.{Header}
-use Rattle.codec.specs.declared.Data.{Data}
-use Rattle.codec.specs.Writing.{bytesOf}
 use Rattle.table.specs.declared.Attribute.{Attribute}
 use Rattle.table.specs.Table.{endOf}
 use Rattle.join.specs.Work.{base}

@@ -5,7 +5,7 @@ ghost use mathlib.Core.List.{[], _∷_};
 ghost use Prim.Native.Nat.{_≤_};
 ghost use lib.ListN.{length};
 ghost use Rattle.laws.specs.Put.{put};
-ghost use Rattle.codec.specs.Writing.{bytesOf};
+ghost use Rattle.octets.specs.Data.{bytesOf};
 ghost use Rattle.table.specs.Table.{partOf};
 ghost use Rattle.join.specs.Work.{kept, base, last, areaAfter};
 ghost use Rattle.guest.specs.Checks.{pieceOf};
@@ -13,7 +13,7 @@ ghost use Rattle.guest.specs.Step.{errorFrame, successFrame, readFrames, sent};
 ghost use Rattle.answers.specs.Code.{Answerable};
 ghost use Rattle.device.specs.Code.{WriteReady, KeepReady, JoinReady, Ready, joinedBytes, outcome, carriedOut};
 use crate::Reply;
-use codec::Data;
+use octets::Data;
 use codec::Header;
 use guest::Plan;
 use table::Attribute;
@@ -48,7 +48,7 @@ fn store_data(to: Attribute, body: Data, store: &mut [u8])
     requires { ⌜ WriteReady to body (length (now store)) ⌝ }
     ensures { λ _. ⌜ now (store .exit) ≡ put (now (store .entry)) (to .offset) (bytesOf body) ⌝ }
 {
-    let places = codec::places_of(body);
+    let places = octets::places_of(body);
     let n = body.len as usize;
     let at = to.offset as usize;
     let end = at + n;
@@ -60,7 +60,7 @@ fn store_joined(to: Attribute, number: u8, total: u8, body: Data, work: &[u8], s
     requires { ⌜ JoinReady to number total body (length (now store)) (length (now work)) × (last 4 (pieceOf (to .id) number total body) ≡ true) ⌝ }
     ensures { λ _. ⌜ now (store .exit) ≡ put (now (store .entry)) (to .offset) (joinedBytes to number body (now (work .entry))) ⌝ }
 {
-    let places = codec::places_of(body);
+    let places = octets::places_of(body);
     let n = body.len as usize;
     let start = to.offset as usize;
     let end = start + to.len as usize;
@@ -78,7 +78,7 @@ fn keep_piece(to: Attribute, number: u8, total: u8, body: Data, work: &mut [u8])
     requires { ⌜ KeepReady to number total body (length (now work)) ⌝ }
     ensures { λ _. ⌜ now (work .exit) ≡ areaAfter 4 (base (to .object)) (pieceOf (to .id) number total body) kept (now (work .entry)) ⌝ }
 {
-    let places = codec::places_of(body);
+    let places = octets::places_of(body);
     let n = body.len as usize;
     join::keep(
         work,

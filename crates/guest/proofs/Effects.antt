@@ -12,8 +12,8 @@ use Rattle.laws.specs.Put.{put}
 use Rattle.laws.proofs.Tests.{split, clash}
 use Rattle.laws.proofs.Checks.{first-most}
 use Rattle.laws.proofs.Put.{put-nothing}
+use Rattle.octets.specs.declared.Data.{Data}
 use Rattle.codec.specs.declared.Header.{Header}
-use Rattle.codec.specs.declared.Data.{Data}
 use Rattle.codec.specs.declared.Message.{Message}
 use Rattle.codec.specs.declared.Message.the-variants.{Short, Plain, Fragment}
 use Rattle.codec.specs.Names.{readService}

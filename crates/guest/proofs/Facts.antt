@@ -2,11 +2,11 @@
 use Prim.Native.Nat.{ℕ, _≤_}
 use mathlib.Core.Path.{_≡_, refl}
 use mathlib.Core.List.{List, [], _∷_}
+use Rattle.octets.specs.declared.Data.{Data}
+use Rattle.octets.specs.Data.{dataOf}
 use Rattle.codec.specs.declared.Header.{Header}
-use Rattle.codec.specs.declared.Data.{Data}
 use Rattle.codec.specs.declared.Message.the-variants.{Plain}
 use Rattle.codec.specs.Names.{erroneous}
-use Rattle.codec.specs.Reading.{dataOf}
 use Rattle.codec.specs.Writing.{imageOf}
 use Rattle.table.specs.declared.Attribute.{Attribute}
 use Rattle.join.specs.Work.{Piece, kept}

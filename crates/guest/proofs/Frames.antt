@@ -12,15 +12,16 @@ use borrow.Author.Tests.{leb-true, leb-false}
 use Rattle.laws.specs.Put.{put}
 use Rattle.laws.proofs.Put.{length-put, put-front}
 use Rattle.laws.proofs.Tests.{split}
+use Rattle.octets.specs.Data.{dataOf, bytesOf}
+use Rattle.octets.proofs.Datas.{bytes-data}
 use Rattle.codec.specs.declared.Header.{Header}
 use Rattle.codec.specs.declared.Subject.{Subject}
 use Rattle.codec.specs.declared.Answer.the-variants.{Got}
 use Rattle.codec.specs.declared.Message.the-variants.{Plain, Fragment}
 use Rattle.codec.specs.Names.{successful, erroneous}
 use Rattle.codec.specs.Fields.{headerOf}
-use Rattle.codec.specs.Reading.{dataOf, readOf}
-use Rattle.codec.specs.Writing.{bytesOf, imageOf}
-use Rattle.codec.proofs.Datas.{bytes-data}
+use Rattle.codec.specs.Reading.{readOf}
+use Rattle.codec.specs.Writing.{imageOf}
 use Rattle.codec.proofs.Fits.{SubjectFits}
 use Rattle.codec.proofs.Images.{plain-length, fragment-length}
 use Rattle.codec.proofs.Trips.{written-read, plain-carried, fragment-carried}

@@ -13,10 +13,10 @@ use borrow.Author.Tests.{le-leb}
 use Rattle.laws.specs.Put.{put, Agree}
 use Rattle.laws.proofs.Put.{length-put, untouched, put-both, same-part}
 use Rattle.laws.proofs.Mixing.{Local}
+use Rattle.octets.specs.declared.Data.{Data}
+use Rattle.octets.specs.Data.{bytesOf}
 use Rattle.codec.specs.declared.Header.{Header}
-use Rattle.codec.specs.declared.Data.{Data}
 use Rattle.codec.specs.Fields.{headerOf}
-use Rattle.codec.specs.Writing.{bytesOf}
 use Rattle.codec.proofs.Headers.{ranged}
 use Rattle.table.specs.declared.Attribute.{Attribute}
 use Rattle.table.specs.Table.{attributes, endOf, partOf, ownerIn}

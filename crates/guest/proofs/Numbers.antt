@@ -10,9 +10,9 @@ use borrow.Author.Tests.{eqb-true, eqb-false, eq-eqb, ltb-true, le-ltb, not-fals
 use Rattle.laws.specs.Checks.{firstOf}
 use Rattle.laws.proofs.Tests.{split, clash}
 use Rattle.laws.proofs.Checks.{first-append}
+use Rattle.octets.specs.declared.Data.{Data}
 use Rattle.codec.specs.declared.Header.{Header}
 use Rattle.codec.specs.declared.Subject.{Subject}
-use Rattle.codec.specs.declared.Data.{Data}
 use Rattle.codec.specs.declared.Message.{Message}
 use Rattle.codec.specs.declared.Message.the-variants.{Short, Plain, Fragment}
 use Rattle.codec.specs.Names.{writeService, readService}

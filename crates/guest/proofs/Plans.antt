@@ -11,17 +11,18 @@ use borrow.Author.Tests.{ltb-true, ltb-false, eqb-true, eqb-false, eq-eqb, ne-eq
 use Rattle.laws.specs.Checks.{firstOf, holdsAt}
 use Rattle.laws.proofs.Tests.{split, clash, not-both}
 use Rattle.laws.proofs.Checks.{none-holds}
+use Rattle.octets.specs.declared.Data.{Data}
+use Rattle.octets.specs.Data.{bytesOf, tidy}
+use Rattle.octets.proofs.Datas.{bytes-length, tidy-more}
 use Rattle.codec.specs.declared.Header.{Header}
-use Rattle.codec.specs.declared.Data.{Data}
 use Rattle.codec.specs.declared.Answer.the-variants.{Got}
 use Rattle.codec.specs.declared.Message.{Message}
 use Rattle.codec.specs.declared.Message.the-variants.{Short, Plain, Fragment}
 use Rattle.codec.specs.Names.{writeService, readService}
 use Rattle.codec.specs.Fields.{headerOf}
 use Rattle.codec.specs.Reading.{headerChecks, barred, messageOf, readOf}
-use Rattle.codec.specs.Writing.{bytesOf, tidy, subjectFits, carried}
+use Rattle.codec.specs.Writing.{subjectFits, carried}
 use Rattle.codec.proofs.Headers.{long-passes}
-use Rattle.codec.proofs.Datas.{bytes-length, tidy-more}
 use Rattle.codec.proofs.Long.{got}
 use Rattle.codec.proofs.Trips.{read-is-carried}
 use Rattle.table.specs.declared.Attribute.{Attribute}

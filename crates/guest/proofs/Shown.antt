@@ -11,10 +11,10 @@ use borrow.Author.Tests.{eqb-true, eqb-false}
 use Rattle.laws.specs.Put.{put}
 use Rattle.laws.specs.Mixing.{run}
 use Rattle.laws.proofs.Tests.{split}
+use Rattle.octets.specs.declared.Data.{Data}
+use Rattle.octets.specs.Data.{bytesOf}
 use Rattle.codec.specs.declared.Header.{Header}
-use Rattle.codec.specs.declared.Data.{Data}
 use Rattle.codec.specs.Fields.{headerOf}
-use Rattle.codec.specs.Writing.{bytesOf}
 use Rattle.table.specs.declared.Attribute.{Attribute}
 use Rattle.table.specs.Table.{partOf}
 use Rattle.join.specs.Work.{Piece, Work, Joined, kept, done, lost, base, load, joined, last, areaAfter}

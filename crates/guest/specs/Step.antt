@@ -7,15 +7,16 @@ use lib.ListN.{length, take, drop}
 use lib.Dec.{eqb, leb}
 use Rattle.laws.specs.Checks.{firstOf}
 use Rattle.laws.specs.Put.{put}
+use Rattle.octets.specs.declared.Data.{Data}
+use Rattle.octets.specs.Data.{dataOf, bytesOf}
 use Rattle.codec.specs.declared.Header.{Header}
 use Rattle.codec.specs.declared.Subject.{Subject}
-use Rattle.codec.specs.declared.Data.{Data}
 use Rattle.codec.specs.declared.Message.{Message}
 use Rattle.codec.specs.declared.Message.the-variants.{Short, Plain, Fragment}
 use Rattle.codec.specs.Names.{readService, successful, erroneous}
 use Rattle.codec.specs.Fields.{headerOf}
-use Rattle.codec.specs.Reading.{dataOf, messageOf}
-use Rattle.codec.specs.Writing.{bytesOf, imageOf}
+use Rattle.codec.specs.Reading.{messageOf}
+use Rattle.codec.specs.Writing.{imageOf}
 use Rattle.table.specs.declared.Attribute.{Attribute}
 use Rattle.table.specs.declared.Found.{Found}
 use Rattle.table.specs.declared.Found.the-variants.{At, Nothing}

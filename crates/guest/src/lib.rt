@@ -13,13 +13,13 @@ pub enum Plan {
     Read(table::Attribute),
     Write {
         to: table::Attribute,
-        body: codec::Data,
+        body: octets::Data,
     },
     // A fragment of a Write.
     Join {
         to: table::Attribute,
         number: u8,
         total: u8,
-        body: codec::Data,
+        body: octets::Data,
     },
 }

@@ -11,6 +11,7 @@ use borrow.Author.Tests.{eqb-true, eqb-false, ltb-true, ltb-false, eq-eqb, ne-eq
 use Rattle.laws.specs.Checks.{Check, firstOf, holdsAt, risesFrom}
 use Rattle.laws.proofs.Tests.{split, clash}
 use Rattle.laws.proofs.Checks.{first-append, first-most, none-holds}
+use Rattle.octets.specs.Data.{dataOf}
 use Rattle.codec.specs.declared.Header.{Header}
 use Rattle.codec.specs.declared.Message.{Message}
 use Rattle.codec.specs.declared.Message.the-variants.{Short, Plain, Fragment}
@@ -18,7 +19,7 @@ use Rattle.codec.specs.declared.Answer.{Answer}
 use Rattle.codec.specs.declared.Answer.the-variants.{Got, Refused}
 use Rattle.codec.specs.Names.{writeService, readService}
 use Rattle.codec.specs.Fields.{headerOf}
-use Rattle.codec.specs.Reading.{barred, subjectOf, dataOf, payloadOf, messageOf, readOf, numberOf}
+use Rattle.codec.specs.Reading.{barred, subjectOf, payloadOf, messageOf, readOf, numberOf}
 use Rattle.codec.proofs.Long.{got, message-plain, message-fragment}
 use Rattle.codec.proofs.Trips.{read-message}
 use Rattle.codec.proofs.Promises.{reads-exactly}

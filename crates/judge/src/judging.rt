@@ -6,7 +6,7 @@ ghost use Rattle.judge.specs.Code.{pieceChecks, planBy, bodyPlan, writeP
 use crate::sizes::least;
 use crate::sizes::wide;
 use codec::Answer;
-use codec::Data;
+use octets::Data;
 use codec::Header;
 use codec::Message;
 use guest::Plan;

@@ -11,10 +11,11 @@ use Rattle.laws.specs.Bytes.{byteAt}
 use Rattle.laws.specs.Checks.{firstOf}
 use Rattle.laws.proofs.Tests.{split}
 use Rattle.laws.proofs.Bytes.{zeros-are, places, placed}
+use Rattle.octets.specs.Data.{dataOf}
 use Rattle.codec.specs.declared.Answer.the-variants.{Got, Refused}
 use Rattle.codec.specs.declared.Message.{Message}
 use Rattle.codec.specs.declared.Message.the-variants.{Short, Plain, Fragment}
-use Rattle.codec.specs.Reading.{readChecks, dataOf, messageOf, readOf}
+use Rattle.codec.specs.Reading.{readChecks, messageOf, readOf}
 use Rattle.sds.specs.Border.{longBytes, messageBytes, subjectAt, dataAt, messageAt, bordered, borderReadNumber, borderRead}
 
 -- sixteen bytes, one by one, or the first four of them

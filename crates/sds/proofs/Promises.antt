@@ -13,12 +13,13 @@ use Rattle.laws.specs.Bytes.{Bytes}
 use Rattle.laws.specs.Checks.{Check, firstOf, holdsAt}
 use Rattle.laws.proofs.Tests.{split, clash}
 use Rattle.laws.proofs.Checks.{FirstAt, given-exactly, none-holds}
+use Rattle.octets.specs.Data.{dataOf}
 use Rattle.codec.specs.declared.Answer.{Answer}
 use Rattle.codec.specs.declared.Answer.the-variants.{Got, Refused}
 use Rattle.codec.specs.declared.Message.{Message}
 use Rattle.codec.specs.declared.Message.the-variants.{Short, Plain, Fragment}
 use Rattle.codec.specs.Fields.{headerOf}
-use Rattle.codec.specs.Reading.{headerChecks, readChecks, dataOf, messageOf, readOf, numberOf}
+use Rattle.codec.specs.Reading.{headerChecks, readChecks, messageOf, readOf, numberOf}
 use Rattle.codec.specs.Writing.{carried, imageOf, clearedOf}
 use Rattle.codec.proofs.Trips.{written-read, read-written, read-is-carried}
 use Rattle.codec.proofs.Promises as codec

@@ -6,14 +6,15 @@ use lib.ListN.{length, drop}
 use lib.Dec.{eqb, ltb}
 use Rattle.laws.specs.Bytes.{byteAt, zeros}
 use Rattle.laws.specs.Checks.{Check, firstOf}
+use Rattle.octets.specs.declared.Data.{Data}
+use Rattle.octets.specs.Data.{dataOf, placesOf}
 use Rattle.codec.specs.declared.Subject.{Subject}
-use Rattle.codec.specs.declared.Data.{Data}
 use Rattle.codec.specs.declared.Message.{Message}
 use Rattle.codec.specs.declared.Message.the-variants.{Short, Plain, Fragment}
 use Rattle.codec.specs.declared.Answer.{Answer}
 use Rattle.codec.specs.declared.Answer.the-variants.{Got, Refused}
-use Rattle.codec.specs.Reading.{dataOf, readOf, numberOf}
-use Rattle.codec.specs.Writing.{placesOf, carried, imageOf}
+use Rattle.codec.specs.Reading.{readOf, numberOf}
+use Rattle.codec.specs.Writing.{carried, imageOf}
 use Rattle.table.specs.Descriptor.{descriptorSize}
 use Rattle.table.specs.Table.{entrySize, wellFormed}
 use Rattle.guest.specs.Step.{Outcome}

@@ -43,7 +43,7 @@ pub extern "C" fn sds_read(frame: &[u8], message: &mut [u8]) -> u32
     }
     let h = codec::header_of(frame);
     if h.dlc == 0 {
-        put_places(0, short_subject(h), 0, 0, codec::data_from(b""), message);
+        put_places(0, short_subject(h), 0, 0, octets::data_from(b""), message);
         return 0;
     }
     let p = codec::payload_of(frame);

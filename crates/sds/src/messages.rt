@@ -5,11 +5,11 @@ ghost use lib.Dec.{eqb};
 ghost use lib.ListN.{length, drop};
 ghost use Rattle.laws.specs.Bytes.{byteAt, zeros};
 ghost use Rattle.sds.specs.Border.{longBytes, shortSubject, subjectAt, dataAt, messageAt, bordered as Border·bordered};
-use codec::Data;
+use octets::Data;
 use codec::Header;
 use codec::Message;
 use codec::Subject;
-use codec::byte_at;
+use octets::byte_at;
 
 // The bytes of a message.
 pub(crate) const MESSAGE: usize = 16;

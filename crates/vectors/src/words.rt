@@ -1,8 +1,8 @@
 // What was read, in words.
-use codec::Data;
 use codec::Message;
 use codec::Subject;
 use libc::STDOUT_FILENO;
+use octets::Data;
 
 pub(crate) fn print_text(text: &[u8]) {
     io::write_all(STDOUT_FILENO, text);
@@ -46,7 +46,7 @@ fn print_byte(x: u8) {
 }
 
 fn print_data(d: Data) {
-    let places = [d.b0, d.b1, d.b2, d.b3, d.b4, d.b5];
+    let places = octets::places_of(d);
     let n = d.len as usize;
     print_text(b" data");
     for i in 0..6 {

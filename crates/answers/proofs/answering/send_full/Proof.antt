@@ -3,10 +3,10 @@ use mathlib.Core.Path.{_≡_, ap, _∙_}
 use native.Mathlib.Omega.{arith}
 use lib.ListN.{length, take, drop, length-take}
 use Rattle.laws.specs.Put.{put}
-use Rattle.codec.specs.declared.Data.{Data}
+use Rattle.octets.specs.declared.Data.{Data}
+use Rattle.octets.proofs.Datas.{tidy-data}
 use Rattle.codec.specs.declared.Message.the-variants.{Fragment}
 use Rattle.codec.specs.Writing.{imageOf}
-use Rattle.codec.proofs.Datas.{tidy-data}
 use Rattle.guest.specs.Step.{fragmentFrame}
 use Rattle.answers.proofs.Sending.{four-at}
 use borrow.Author.Needs.{needs}

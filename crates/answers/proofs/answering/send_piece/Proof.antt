@@ -4,7 +4,8 @@ use mathlib.Core.List.{List}
 use native.Mathlib.Omega.{arith}
 use Rattle.laws.specs.Bytes.{padded}
 use Rattle.laws.specs.Put.{put}
-use Rattle.codec.specs.Writing.{bytesOf, longFrame, frameOf, imageOf}
+use Rattle.octets.specs.Data.{bytesOf}
+use Rattle.codec.specs.Writing.{longFrame, frameOf, imageOf}
 use Rattle.codec.proofs.Images.{places-are-image, prefixed-is, fragment-payload}
 use borrow.Author.Needs.{needs}
 use Rattle.answers.proofs.answering.send_piece.Statement.{statement}

@@ -2,10 +2,10 @@ use Prim.Native.Nat.{_+_, _*_}
 use mathlib.Core.Path.{_≡_, ap, sym, _∙_}
 use native.Mathlib.Omega.{arith}
 use lib.Seq.{take-all}
-use Rattle.codec.specs.Reading.{dataOf}
+use Rattle.octets.specs.Data.{dataOf}
+use Rattle.octets.proofs.Datas.{tidy-data}
 use Rattle.codec.specs.Writing.{frameOf, imageOf}
 use Rattle.codec.specs.declared.Message.the-variants.{Plain}
-use Rattle.codec.proofs.Datas.{tidy-data}
 use Rattle.codec.proofs.Fits.{subject-fits}
 use Rattle.codec.proofs.Images.{places-are-image}
 use Rattle.guest.specs.Step.{answering}

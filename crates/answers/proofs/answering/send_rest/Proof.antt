@@ -2,8 +2,8 @@ use Prim.Native.Nat.{_*_, _≤_}
 use mathlib.Core.Path.{_≡_, ap, _∙_}
 use native.Mathlib.Omega.{arith}
 use lib.ListN.{length, take, drop, length-take}
-use Rattle.codec.specs.Reading.{dataOf}
-use Rattle.codec.proofs.Datas.{tidy-data}
+use Rattle.octets.specs.Data.{dataOf}
+use Rattle.octets.proofs.Datas.{tidy-data}
 use Rattle.guest.specs.Step.{fragmentFrame}
 use Rattle.answers.proofs.Sending.{rest-cut}
 use borrow.Author.Needs.{needs}

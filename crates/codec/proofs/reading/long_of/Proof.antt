@@ -1,6 +1,7 @@
 use Rattle.laws.proofs.Tests.{tests}
+use Rattle.octets.proofs.Datas.{data-bytes, byte-place}
 use Rattle.codec.specs.Reading.{longOf}
-use Rattle.codec.proofs.Datas.{data-bytes, data-unprefixed, byte-place}
+use Rattle.codec.proofs.Images.{data-unprefixed}
 use borrow.Author.Needs.{needs}
 use Rattle.codec.proofs.reading.long_of.Statement.{statement}
 use Rattle.codec.proofs.reading.long_of.Tie as tie

@@ -2,7 +2,7 @@ use Prim.Native.Nat.{_≤_}
 use native.Mathlib.Omega.{arith}
 use lib.ListN.{length, drop, length-drop}
 use lib.Seq.{getD-drop}
-use Rattle.codec.proofs.Datas.{data-taken}
+use Rattle.octets.proofs.Datas.{data-taken}
 use borrow.Author.Needs.{needs}
 use Rattle.codec.proofs.reading.payload_of_ten.Statement.{statement}
 use Rattle.codec.proofs.reading.payload_of_ten.Tie as tie

@@ -6,7 +6,8 @@ use native.Mathlib.Omega.{arith}
 use lib.ListN.{length}
 use borrow.Author.Tests.{eq-eqb}
 use Rattle.laws.specs.Bytes.{padded}
-use Rattle.codec.specs.Writing.{subjectFits, tidy, carried, longFrame, frameOf, imageOf}
+use Rattle.octets.specs.Data.{tidy}
+use Rattle.codec.specs.Writing.{subjectFits, carried, longFrame, frameOf, imageOf}
 use Rattle.codec.specs.Code.{putLong}
 use Rattle.codec.proofs.Images.{places-are-image, prefixed-is, fragment-payload}
 use borrow.Author.Needs.{needs}

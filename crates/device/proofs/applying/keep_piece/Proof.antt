@@ -1,7 +1,7 @@
 use Prim.Native.Nat.{_-_}
 use mathlib.Core.Path.{_≡_, refl, _∙_}
 use lib.ListN.{length, take}
-use Rattle.codec.specs.Writing.{bytesOf}
+use Rattle.octets.specs.Data.{bytesOf}
 use Rattle.join.specs.Work.{base}
 use Rattle.join.proofs.Parts.{keeps}
 use Rattle.device.proofs.Outcomes.{places-cut, piece-room}

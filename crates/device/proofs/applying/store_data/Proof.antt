@@ -3,7 +3,7 @@ use mathlib.Core.Path.{_≡_, refl, ap, _∙_}
 use native.Mathlib.Omega.{arith}
 use lib.ListN.{length, take, drop, length-take}
 use borrow.Rule.Slice.PartMut.{mid-len}
-use Rattle.codec.specs.Writing.{bytesOf}
+use Rattle.octets.specs.Data.{bytesOf}
 use Rattle.laws.proofs.Bytes.{copied}
 use Rattle.join.proofs.Parts.{put-mid}
 use Rattle.device.proofs.Outcomes.{places-cut}

@@ -3,7 +3,7 @@ use mathlib.Core.Path.{_≡_, refl, _∙_}
 use native.Mathlib.Omega.{arith}
 use lib.ListN.{length, take, drop}
 use borrow.Rule.Slice.PartMut.{mid-len}
-use Rattle.codec.specs.Writing.{bytesOf}
+use Rattle.octets.specs.Data.{bytesOf}
 use Rattle.join.specs.Work.{base}
 use Rattle.join.proofs.Parts.{joins, put-mid}
 use Rattle.device.specs.Code.{joinedBytes}

@@ -10,6 +10,9 @@ Inv-loop places n i₀ i = i ≤ 6
 abbrev μ-loop : tie.MeasureT-loop
 μ-loop places n i₀ i = 6 - i
 
+places-of-requires : tie.Need-places-of-requires Inv-loop μ-loop
+places-of-requires c κs = search needs
+
 cast-n : tie.Need-cast-n Inv-loop μ-loop
 cast-n c = search needs
 
@@ -46,6 +49,7 @@ print-data-spec =
     (tie.spec
     Inv-loop
     μ-loop
+    places-of-requires
     cast-n
     slice-aggregate-print-text
     print-text-requires

@@ -1,8 +1,8 @@
 use Rattle.laws.proofs.Tests.{tests}
-use Rattle.codec.specs.Writing.{tidy}
+use Rattle.octets.specs.Data.{tidy}
 use borrow.Author.Needs.{needs}
-use Rattle.codec.proofs.writing.tidy.Statement.{statement}
-use Rattle.codec.proofs.writing.tidy.Tie as tie
+use Rattle.octets.proofs.bodies.is_tidy.Statement.{statement}
+use Rattle.octets.proofs.bodies.is_tidy.Tie as tie
 
 returns : tie.Need-returns
 unfolding tidy
@@ -15,5 +15,5 @@ returns-2 : tie.Need-returns-2
 unfolding tidy
 returns-2 c = search (tests, c .rest-is-zero .ensures)
 
-pub tidy-spec : {M : Type 1} → statement M
-tidy-spec = tie.close (tie.spec returns rest-is-zero-requires returns-2)
+pub is-tidy-spec : {M : Type 1} → statement M
+is-tidy-spec = tie.close (tie.spec returns rest-is-zero-requires returns-2)

@@ -1,8 +1,8 @@
 use mathlib.Core.Path.{sym}
-use Rattle.codec.proofs.Datas.{data-front}
+use Rattle.octets.proofs.Datas.{data-front}
 use borrow.Author.Needs.{needs}
-use Rattle.codec.proofs.bodies.data_from.Statement.{statement}
-use Rattle.codec.proofs.bodies.data_from.Tie as tie
+use Rattle.octets.proofs.bodies.data_from.Statement.{statement}
+use Rattle.octets.proofs.bodies.data_from.Tie as tie
 
 least-of-six-requires : tie.Need-least-of-six-requires
 least-of-six-requires c κs = search needs

@@ -1,4 +1,4 @@
-// Bytes, one at a time.
+// Bytes of a slice, one at a time.
 ghost use mathlib.Core.Path.{_≡_};
 ghost use lib.ListN.{getD};
 

@@ -1,20 +1,19 @@
 -- Data and the bytes that it holds: each is read off the other.
-use Prim.Native.Nat.{ℕ, suc, _+_, _-_, _<_, _≤_, min}
+use Prim.Native.Nat.{ℕ, zero, suc, _-_, _<_, _≤_, min}
 use mathlib.Core.Path.{_≡_, refl, sym, ap, _∙_}
-use mathlib.Core.Bool.{Bool, true, false, cond, _&&_, and-eq-true-iff}
-use mathlib.Core.List.{List, [], _∷_, _++_}
+use mathlib.Core.Bool.{true, false, cond, _&&_, and-eq-true-iff, and-assoc, true-and, and-true, and-false}
+use mathlib.Core.List.{List, [], _∷_}
 use native.Mathlib.Omega.{arith}
-use lib.ListN.{length, getD, take, drop, replicate, length-take, length-drop}
-use lib.Seq.{length-take-le, take-at, drop-at, getD-take, getD-drop}
+use lib.ListN.{length, getD, take, drop, replicate, length-take}
+use lib.Seq.{length-take-le, take-at, drop-at, getD-take}
 use lib.Dec.{leb, ltb}
 use borrow.Author.Tests.{leb-true, le-leb}
 use Rattle.laws.specs.Bytes.{zeros, padded}
 use Rattle.laws.proofs.Bytes.{are-zeros, getD-past, padded-take, byte-taken, zeros-at}
 use Rattle.laws.proofs.Tests.{split}
-use Rattle.codec.specs.declared.Data.{Data}
-use Rattle.codec.specs.Reading.{dataOf}
-use Rattle.codec.specs.Writing.{placesOf, bytesOf, tidy}
-use Rattle.codec.specs.Code.{unprefixed}
+use Rattle.octets.specs.declared.Data.{Data}
+use Rattle.octets.specs.Data.{dataOf}
+use Rattle.octets.specs.Data.{placesOf, bytesOf, tidy}
 
 -- at most six bytes, and the zeros behind them
 places : (l : List ℕ) → length l ≤ 6
@@ -72,12 +71,6 @@ module _ (d : Data) (t : tidy 6 d ≡ true) where
   unfolding dataOf
   data-bytes = simp (bytes-length, byte-place 0, byte-place 1, byte-place 2, byte-place 3, byte-place 4, byte-place 5)
 
-  -- behind its first two bytes
-  pub data-unprefixed : unprefixed d ≡ dataOf (drop 2 (bytesOf d))
-  unfolding dataOf unprefixed
-  data-unprefixed =
-      simp (length-drop, bytes-length, getD-drop 2 (bytesOf d), byte-place 2, byte-place 3, byte-place 4, byte-place 5, byte-place 6, byte-place 7)
-
 -- the first so many bytes of a list, place by place
 pub data-taken : (n : ℕ) (l : List ℕ) → n ≤ length l
     → dataOf (take n l)
@@ -102,9 +95,33 @@ unfolding dataOf
 data-front l =
     simp (length-take 6 l, getD-take 6 l 0 0 (omega arith), getD-take 6 l 1 0 (omega arith), getD-take 6 l 2 0 (omega arith), getD-take 6 l 3 0 (omega arith), getD-take 6 l 4 0 (omega arith), getD-take 6 l 5 0 (omega arith))
 
--- the places behind the bytes, by the one that the length is at, and by one behind it
-pub rest-at : (k : ℕ) (d : Data) → d .len ≡ k → zeros (drop k (placesOf d)) ≡ true → zeros (drop (d .len) (placesOf d)) ≡ true
-rest-at k d e z = rw e z
+-- ---- the places that the bytes leave unused
 
-pub rest-not : (k : ℕ) (d : Data) → d .len ≤ k → (getD (placesOf d) k 0 ≡ 0 → ⊥) → zeros (drop (d .len) (placesOf d)) ≡ false
-rest-not k d h n = split (zeros (drop (d .len) (placesOf d))) (λ t. absurd (n (zeros-at (d .len) (placesOf d) k h t))) (λ f. f)
+-- by the place at which they begin, and by one of them that is not 0
+pub rest-at : (k n : ℕ) (l : List ℕ) → n ≡ k → zeros (drop k l) ≡ true → zeros (drop n l) ≡ true
+rest-at k n l e z = rw e z
+
+pub rest-not : (k n : ℕ) (l : List ℕ) → n ≤ k → (getD l k 0 ≡ 0 → ⊥) → zeros (drop n l) ≡ false
+rest-not k n l h f = split (zeros (drop n l)) (λ t. absurd (f (zeros-at n l k h t))) (λ e. e)
+
+-- by threes: those that begin behind the first three, and those that begin among them
+pub rest-behind : (n a b c : ℕ) (l : List ℕ) → 3 ≤ n → drop n (a ∷ b ∷ c ∷ l) ≡ drop (n - 3) l
+rest-behind zero a b c l h = absurd (omega arith)
+rest-behind (suc zero) a b c l h = absurd (omega arith)
+rest-behind (suc (suc zero)) a b c l h = absurd (omega arith)
+rest-behind (suc (suc (suc n))) a b c l h =
+    let q : suc (suc (suc n)) - 3 ≡ n = omega arith in
+    rw q
+
+rest-among : (n a b c : ℕ) (l : List ℕ) → n ≤ 3 → zeros (drop n (a ∷ b ∷ c ∷ l)) ≡ zeros (drop n (a ∷ b ∷ c ∷ [])) && zeros l
+rest-among zero a b c l h = simp (and-assoc, true-and)
+rest-among (suc zero) a b c l h = simp (and-assoc, true-and)
+rest-among (suc (suc zero)) a b c l h = simp (and-assoc, true-and)
+rest-among (suc (suc (suc zero))) a b c l h = refl
+rest-among (suc (suc (suc (suc n)))) a b c l h = absurd (omega arith)
+
+pub rest-zero : (n a b c : ℕ) (l : List ℕ) → n < 3 → zeros l ≡ true → zeros (drop n (a ∷ b ∷ c ∷ l)) ≡ zeros (drop n (a ∷ b ∷ c ∷ []))
+rest-zero n a b c l h z = rest-among n a b c l (omega arith) ∙ rw z (and-true (zeros (drop n (a ∷ b ∷ c ∷ []))))
+
+pub rest-not-zero : (n a b c : ℕ) (l : List ℕ) → n < 3 → zeros l ≡ false → zeros (drop n (a ∷ b ∷ c ∷ l)) ≡ false
+rest-not-zero n a b c l h z = rest-among n a b c l (omega arith) ∙ rw z (and-false (zeros (drop n (a ∷ b ∷ c ∷ []))))

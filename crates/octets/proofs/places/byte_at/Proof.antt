@@ -1,7 +1,7 @@
 use lib.ListN.{List·getD-eq-default}
 use borrow.Author.Needs.{needs}
-use Rattle.codec.proofs.octets.byte_at.Statement.{statement}
-use Rattle.codec.proofs.octets.byte_at.Tie as tie
+use Rattle.octets.proofs.places.byte_at.Statement.{statement}
+use Rattle.octets.proofs.places.byte_at.Tie as tie
 
 shared-slice-read-result : tie.Need-shared-slice-read-result
 shared-slice-read-result c = search needs

@@ -1,7 +1,7 @@
 use mathlib.Core.Path.{refl}
-use Rattle.codec.specs.Reading.{dataOf}
-use Rattle.codec.proofs.bodies.no_data.Statement.{statement}
-use Rattle.codec.proofs.bodies.no_data.Tie as tie
+use Rattle.octets.specs.Data.{dataOf}
+use Rattle.octets.proofs.bodies.no_data.Statement.{statement}
+use Rattle.octets.proofs.bodies.no_data.Tie as tie
 
 returns : tie.Need-returns
 unfolding dataOf
