@@ -13,9 +13,9 @@ ghost use Rattle.guest.specs.Step.{errorFrame, successFrame, readFrames, sent};
 ghost use Rattle.answers.specs.Code.{Answerable};
 ghost use Rattle.device.specs.Code.{WriteReady, KeepReady, JoinReady, Ready, joinedBytes, outcome, carriedOut};
 use crate::Reply;
-use octets::Data;
 use codec::Header;
 use guest::Plan;
+use octets::Data;
 use table::Attribute;
 
 // One error frame.

@@ -6,10 +6,10 @@ ghost use Rattle.judge.specs.Code.{pieceChecks, planBy, bodyPlan, writeP
 use crate::sizes::least;
 use crate::sizes::wide;
 use codec::Answer;
-use octets::Data;
 use codec::Header;
 use codec::Message;
 use guest::Plan;
+use octets::Data;
 use table::Attribute;
 use table::Found;
 

@@ -5,10 +5,10 @@ ghost use lib.Dec.{eqb};
 ghost use lib.ListN.{length, drop};
 ghost use Rattle.laws.specs.Bytes.{byteAt, zeros};
 ghost use Rattle.sds.specs.Border.{longBytes, shortSubject, subjectAt, dataAt, messageAt, bordered as Border·bordered};
-use octets::Data;
 use codec::Header;
 use codec::Message;
 use codec::Subject;
+use octets::Data;
 use octets::byte_at;
 
 // The bytes of a message.
