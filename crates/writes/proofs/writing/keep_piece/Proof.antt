@@ -1,13 +1,19 @@
 use Prim.Native.Nat.{_-_}
 use mathlib.Core.Path.{_≡_, refl, _∙_}
-use lib.ListN.{length, take}
+use lib.ListN.{take}
+use borrow.Author.Tests.{lt-leb, le-leb}
 use Rattle.codec.specs.Writing.{bytesOf}
-use Rattle.join.specs.Work.{base}
-use Rattle.join.proofs.Parts.{keeps}
-use Rattle.device.proofs.Outcomes.{places-cut, piece-room}
+use Rattle.writes.specs.Code.{keptPiece}
+use Rattle.writes.proofs.Storing.{places-cut, bytes-long}
 use borrow.Author.Needs.{needs}
-use Rattle.device.proofs.applying.keep_piece.Statement.{statement}
-use Rattle.device.proofs.applying.keep_piece.Tie as tie
+use Rattle.writes.proofs.writing.keep_piece.Statement.{statement}
+use Rattle.writes.proofs.writing.keep_piece.Tie as tie
+
+returns : tie.Need-returns
+unfolding keptPiece
+returns c =
+    let a = c .before .before .before .args in
+    simp (lt-leb (a .body .len) 6 (c .if1 .taken))
 
 places-of-requires : tie.Need-places-of-requires
 places-of-requires c κs = search needs
@@ -33,20 +39,23 @@ keep-requires c κs = search needs
 same-length : tie.Need-same-length
 same-length c = search needs
 
-returns : tie.Need-returns
-returns c =
-    let q = c .before .before .before .before .before in
+returns-2 : tie.Need-returns-2
+unfolding keptPiece
+returns-2 c =
+    let k = c .before .before in
+    let q = k .before .before .before in
     let p = q .before .before .before in
-    let s = p .before .before in
-    let a = s .args in
+    let i = p .before in
+    let a = i .before .before .before .args in
     let b : take (a .body .len - 0) (p .places-of .result) ≡ bytesOf (a .body) = rw (p .places-of .ensures) (places-cut (a .body) (a .body .len) refl) in
-    let room = piece-room (a .to) (a .number) (a .total) (a .body) (length (a .work .now)) (s .pre) in
-    c .before .before .keep .ensures ∙ rw (q .place-of .ensures, b, keeps (base (a .to .object)) (a .number) (length (bytesOf (a .body))) (length (a .work .now)) (room .0) (room .1))
+    k .keep .ensures
+    ∙ rw (q .place-of .ensures, b, bytes-long (a .body) (i .if1 .left)) (simp (le-leb (a .body .len) 6 (i .if1 .left)))
 
 pub keep-piece-spec : {M : Type 1} → statement M
 keep-piece-spec =
     tie.close
     (tie.spec
+    returns
     places-of-requires
     cast-n
     place-of-requires
@@ -55,4 +64,4 @@ keep-piece-spec =
     part-keep-end
     keep-requires
     same-length
-    returns)
+    returns-2)

@@ -1,22 +1,20 @@
 use Prim.Native.Nat.{_+_, _-_}
 use mathlib.Core.Path.{_≡_, refl, _∙_}
-use native.Mathlib.Omega.{arith}
-use lib.ListN.{length, take, drop}
-use borrow.Rule.Slice.PartMut.{mid-len}
+use lib.ListN.{length, take}
+use borrow.Author.Tests.{lt-leb, le-leb}
 use Rattle.codec.specs.Writing.{bytesOf}
-use Rattle.join.specs.Work.{base}
-use Rattle.join.proofs.Parts.{joins, put-mid}
-use Rattle.device.specs.Code.{joinedBytes}
-use Rattle.device.proofs.Outcomes.{places-cut, joined-room}
+use Rattle.table.specs.Table.{endOf}
+use Rattle.writes.specs.Code.{storedJoined, joinedFits}
+use Rattle.writes.proofs.Storing.{places-cut, joined-back}
 use borrow.Author.Needs.{needs}
-use Rattle.device.proofs.applying.store_joined.Statement.{statement}
-use Rattle.device.proofs.applying.store_joined.Tie as tie
+use Rattle.writes.proofs.writing.store_joined.Statement.{statement}
+use Rattle.writes.proofs.writing.store_joined.Tie as tie
 
-places-of-requires : tie.Need-places-of-requires
-places-of-requires c κs = search needs
-
-cast-n : tie.Need-cast-n
-cast-n c = search needs
+returns : tie.Need-returns
+unfolding storedJoined joinedFits
+returns c =
+    let a = c .before .before .before .before .args in
+    simp (lt-leb (a .body .len) 6 (c .if1 .taken))
 
 cast-start : tie.Need-cast-start
 cast-start c = search needs
@@ -26,6 +24,19 @@ cast-end c = search needs
 
 add-end : tie.Need-add-end
 add-end c = search needs
+
+returns-2 : tie.Need-returns-2
+unfolding storedJoined joinedFits
+returns-2 c =
+    let i = c .before .before .before in
+    let a = i .before .before .before .before .args in
+    simp (le-leb (a .body .len) 6 (i .if1 .left), lt-leb (endOf (a .to)) (length (a .store .now)) (c .if2 .taken))
+
+places-of-requires : tie.Need-places-of-requires
+places-of-requires c κs = search needs
+
+cast-n : tie.Need-cast-n
+cast-n c = search needs
 
 place-of-requires : tie.Need-place-of-requires
 place-of-requires c κs = search needs
@@ -54,31 +65,29 @@ join-into-requires c κs = search needs
 same-length : tie.Need-same-length
 same-length c = search needs
 
-returns : tie.Need-returns
-returns c =
-    let j = c .before .before in
-    let q = j .before .before .before .before in
-    let p = q .before .before .before .before in
-    let s = p .before .before .before in
-    let a = s .args in
+returns-3 : tie.Need-returns-3
+returns-3 c =
+    let k = c .before .before in
+    let q = k .before .before .before .before in
+    let p = q .before .before in
+    let j = p .before in
+    let i = j .before .before .before in
+    let a = i .before .before .before .before .args in
     let b : take (a .body .len - 0) (p .places-of .result) ≡ bytesOf (a .body) = rw (p .places-of .ensures) (places-cut (a .body) (a .body .len) refl) in
-    let room = joined-room (a .to) (a .number) (a .total) (a .body) (a .work .now) (s .pre .0 .0) (s .pre .1) in
-    let at = a .to .offset in
-    let end = at + a .to .len in
-    let part = take (end - at) (drop at (a .store .now)) in
-    let long = mid-len at end (a .store .now) (omega arith) in
-    put-mid at end (a .store .now) _ (joinedBytes (a .to) (a .number) (a .body) (a .work .now)) (omega (arith, room .2))
-    (j .join-into .ensures ∙ rw (q .place-of .ensures, b, joins (base (a .to .object)) (a .number) (length (bytesOf (a .body))) (length (a .work .now)) (length part) (room .0) (omega (arith, long, room .1))))
+    joined-back (a .to) (a .number) (a .body) (a .work .now) (a .store .now) _ (i .if1 .left) (j .if2 .left)
+    (k .join-into .ensures ∙ rw (q .place-of .ensures, b))
 
 pub store-joined-spec : {M : Type 1} → statement M
 store-joined-spec =
     tie.close
     (tie.spec
-    places-of-requires
-    cast-n
+    returns
     cast-start
     cast-end
     add-end
+    returns-2
+    places-of-requires
+    cast-n
     place-of-requires
     sub-join-into
     part-join-into-start
@@ -88,4 +97,4 @@ store-joined-spec =
     part-join-into-end-2
     join-into-requires
     same-length
-    returns)
+    returns-3)
