@@ -32,54 +32,52 @@ use Rattle.device.proofs.Ready.{ready}
 -- ---- a fragment, by what the code's tests find
 
 module _ (a : Attribute) (number total : ℕ) (b : Data) (own : ℕ) (h : Header) (store work out : List ℕ)
-    (f : Answerable own h (length out)) (r : JoinReady a number total b (length store) (length work)) (at : ℕ) (e : at ≡ base (a .object)) where
+    (f : Answerable own h (length out)) (r : JoinReady a number total b (length store) (length work)) (at : ℕ) (e : at ≡ base (a .object))
+    (t : Bool) (q : t ≡ astray 4 (load at work) (record { id = a .id; total = total; number = number; bytes = [] })) where
   -- what is done and answered, where it is known what the joiner says
   joined-as : (j : Joined) → joinedAt a number total b work ≡ j
       → outcomeOf (joinReply own h j) (areas (storeAfter a j store) (areaAfter 4 (base (a .object)) (pieceOf (a .id) number total b) j work)) out
       ≡ carriedOut own h (Join a number total b) store work out
   unfolding perform replyTo
-  joined-as j q = rw q
+  joined-as j u = rw u
 
   -- the area after its record is dropped
   cleared : (w : List ℕ) → w ≡ cond (ltb at (length work)) (put work at (0 ∷ [])) work → w ≡ put work (base (a .object)) (0 ∷ [])
-  cleared w q = q ∙ simp (lt-ltb at (length work) (omega (arith, e, r .0 .object, r .0 .area))) (ap (λ (n : ℕ). put work n (0 ∷ [])) e)
+  cleared w u = u ∙ simp (lt-ltb at (length work) (omega (arith, e, r .0 .object, r .0 .area))) (ap (λ (n : ℕ). put work n (0 ∷ [])) e)
 
   -- check 14 looks at no data
-  in-order : (t : Bool) → astray 4 (load at work) (record { id = a .id; total = total; number = number; bytes = [] }) ≡ t
-      → astray 4 (load (base (a .object)) work) (pieceOf (a .id) number total b) ≡ t
-  in-order t q =
+  in-order : astray 4 (load (base (a .object)) work) (pieceOf (a .id) number total b) ≡ t
+  in-order =
       sym (astray-any 4 (load (base (a .object)) work) (pieceOf (a .id) number total b))
-      ∙ ap (λ (n : ℕ). astray 4 (load n work) (record { id = a .id; total = total; number = number; bytes = [] })) (sym e) ∙ q
+      ∙ ap (λ (n : ℕ). astray 4 (load n work) (record { id = a .id; total = total; number = number; bytes = [] })) (sym e) ∙ sym q
 
-  pub lost-outcome : astray 4 (load at work) (record { id = a .id; total = total; number = number; bytes = [] }) ≡ true
-      → (w o : List ℕ) → w ≡ cond (ltb at (length work)) (put work at (0 ∷ [])) work
+  pub lost-outcome : t ≡ true → (w o : List ℕ) → w ≡ cond (ltb at (length work)) (put work at (0 ∷ [])) work
       → o ≡ bare own h erroneous out
       → outcome 14 1 store w o
       ≡ carriedOut own h (Join a number total b) store work out
   unfolding joinedAt joined areaAfter
-  lost-outcome t w o c s = rw (cleared w c, s, refused own h out f) (joined-as lost (simp (in-order true t)))
+  lost-outcome y w o c s = rw (cleared w c, s, refused own h out f) (joined-as lost (simp (in-order, y)))
 
-  module _ (t : astray 4 (load at work) (record { id = a .id; total = total; number = number; bytes = [] }) ≡ false) where
-    pub done-outcome : last 4 (pieceOf (a .id) number total b) ≡ true
-        → (x w o : List ℕ) → x ≡ storedJoined a number b work store
+  module _ (n : t ≡ false) (l : Bool) (k : l ≡ last 4 (pieceOf (a .id) number total b)) where
+    pub done-outcome : l ≡ true → (x w o : List ℕ) → x ≡ storedJoined a number b work store
         → w ≡ cond (ltb at (length work)) (put work at (0 ∷ [])) work
         → o ≡ bare own h successful out
         → outcome 0 1 x w o
         ≡ carriedOut own h (Join a number total b) store work out
     unfolding joinedAt joined areaAfter
-    done-outcome l x w o p c s =
+    done-outcome y x w o p c s =
         let held = held-part (base (a .object)) number work (omega (arith, r .0 .shaped .inside, r .0 .shaped .room)) in
-        rw (p, message-stored a number total b work (r .0) store (r .1) l, cleared w c, s, acknowledged own h out f)
-        (joined-as (done (joinedBytes a number b work)) (simp (in-order false t, l) (rw held)))
+        let whole = sym k ∙ y in
+        rw (p, message-stored a number total b work (r .0) store (r .1) whole, cleared w c, s, acknowledged own h out f)
+        (joined-as (done (joinedBytes a number b work)) (simp (in-order, n, whole) (rw held)))
 
-    pub kept-outcome : last 4 (pieceOf (a .id) number total b) ≡ false
-        → (w : List ℕ) → w ≡ keptPiece a number total b work
+    pub kept-outcome : l ≡ false → (w : List ℕ) → w ≡ keptPiece a number total b work
         → outcome 0 0 store w out
         ≡ carriedOut own h (Join a number total b) store work out
     unfolding joinedAt joined
-    kept-outcome l w q =
+    kept-outcome y w u =
         ap (outcome 0 0 store w) (sym (put-nothing out))
-        ∙ rw (q, piece-kept a number total b work (r .0)) (joined-as kept (simp (in-order false t, l)))
+        ∙ rw (u, piece-kept a number total b work (r .0)) (joined-as kept (simp (in-order, n, sym k ∙ y)))
 
 -- ---- the other plans
 

@@ -1,4 +1,3 @@
-use mathlib.Core.Path.{sym, _∙_}
 use Rattle.device.proofs.Outcomes.{lost-outcome, done-outcome, kept-outcome}
 use borrow.Author.Needs.{needs}
 use Rattle.device.proofs.applying.apply_join.Statement.{statement}
@@ -32,7 +31,7 @@ returns c =
     let s = q .before .before .before .before in
     let a = s .args in
     lost-outcome (a .to) (a .number) (a .total) (a .body) (a .own) (a .h) (a .store .now) (a .work .now) (a .out .now) (s .pre .0) (s .pre .1)
-    _ (q .place-of .ensures) (sym (t .is-astray .ensures) ∙ i .if1 .taken) _ _ (e .clear .ensures) (f .refuse .ensures)
+    _ (q .place-of .ensures) _ (t .is-astray .ensures) (i .if1 .taken) _ _ (e .clear .ensures) (f .refuse .ensures)
 
 is-last-requires : tie.Need-is-last-requires
 is-last-requires c κs = search needs
@@ -68,7 +67,7 @@ returns-2 c =
     let s = q .before .before .before .before in
     let a = s .args in
     done-outcome (a .to) (a .number) (a .total) (a .body) (a .own) (a .h) (a .store .now) (a .work .now) (a .out .now) (s .pre .0) (s .pre .1)
-    _ (q .place-of .ensures) (sym (t .is-astray .ensures) ∙ o .if1 .left) (sym (l .is-last .ensures) ∙ i .if2 .taken)
+    _ (q .place-of .ensures) _ (t .is-astray .ensures) (o .if1 .left) _ (l .is-last .ensures) (i .if2 .taken)
     _ _ _ (j .store-joined .ensures) (e .clear2 .ensures) (g .acknowledge .ensures)
 
 keep-piece-requires : tie.Need-keep-piece-requires
@@ -88,7 +87,7 @@ returns-3 c =
     let s = q .before .before .before .before in
     let a = s .args in
     kept-outcome (a .to) (a .number) (a .total) (a .body) (a .own) (a .h) (a .store .now) (a .work .now) (a .out .now) (s .pre .0) (s .pre .1)
-    _ (q .place-of .ensures) (sym (t .is-astray .ensures) ∙ o .if1 .left) (sym (l .is-last .ensures) ∙ i .if2 .left)
+    _ (q .place-of .ensures) _ (t .is-astray .ensures) (o .if1 .left) _ (l .is-last .ensures) (i .if2 .left)
     _ (k .keep-piece .ensures)
 
 pub apply-join-spec : {M : Type 1} → statement M
