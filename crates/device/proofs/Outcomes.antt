@@ -1,12 +1,13 @@
 -- What carrying out a plan leaves, from what each part of it leaves; and so a call.
 use Prim.Native.Nat.{ℕ, _≤_}
 use mathlib.Core.Path.{_≡_, refl, ap, sym, subst, _∙_}
-use mathlib.Core.Bool.{Bool, true, false, cond}
+use mathlib.Core.Bool.{Bool, true, false, cond, not}
 use mathlib.Core.List.{List, [], _∷_}
 use native.Mathlib.Omega.{arith}
 use lib.ListN.{length}
 use lib.Dec.{ltb}
-use borrow.Author.Tests.{lt-ltb}
+use borrow.Author.Tests.{lt-ltb, not-true, not-false}
+use Rattle.laws.specs.Checks.{firstOf}
 use Rattle.laws.specs.Put.{put}
 use Rattle.laws.proofs.Put.{put-nothing}
 use Rattle.codec.specs.declared.Data.{Data}
@@ -14,14 +15,17 @@ use Rattle.codec.specs.declared.Header.{Header}
 use Rattle.codec.specs.Names.{successful, erroneous}
 use Rattle.codec.specs.Fields.{headerOf}
 use Rattle.table.specs.declared.Attribute.{Attribute}
-use Rattle.table.specs.Table.{partOf}
+use Rattle.table.specs.Table.{partOf, wellFormed}
 use Rattle.join.specs.Work.{Joined, kept, done, lost, base, load, astray, last, joined, areaAfter}
 use Rattle.join.proofs.Parts.{astray-any, held-part}
 use Rattle.guest.specs.declared.Plan.{Plan}
 use Rattle.guest.specs.declared.Plan.the-variants.{Quiet, Error, Read, Write, Join}
-use Rattle.guest.specs.Checks.{pieceOf}
-use Rattle.guest.specs.Step.{storeAfter, joinedAt, perform, joinReply, replyTo, planOf, outcomeOf, settingOf, stepWith, stepOf}
+use Rattle.guest.specs.Checks.{pieceOf, misfit}
+use Rattle.guest.specs.Step.{storeAfter, joinedAt, perform, joinReply, replyTo, planOf, Outcome, outcomeOf, settingOf, stepWith, stepOf}
 use Rattle.guest.proofs.Frames.{part-most}
+use Rattle.guest.proofs.Plans.{fit}
+use Rattle.judge.specs.Code.{routeChecks, planByService}
+use Rattle.judge.proofs.Groups.{plan-misfit, plan-ill-formed, plan-unrouted, plan-request}
 use Rattle.answers.specs.Code.{Answerable, bare, partCount, partSent}
 use Rattle.answers.proofs.Sending.{refused, acknowledged, part-count, part-sent}
 use Rattle.writes.specs.Code.{JoinReady, joinedBytes, storedData, storedJoined, keptPiece}
@@ -110,7 +114,7 @@ module _ (own : ℕ) (h : Header) (store work out : List ℕ) (p : Plan) (r : Re
       let f = ready-as (Write a b) e in
       rw (e, c, data-stored a b store (f .1), s, acknowledged own h out (f .0))
 
--- ---- a call
+-- ---- a call, by what the code's tests find
 
 module _ (r : List ℕ) (own : ℕ) (table store work out : List ℕ) where
   -- a call is its plan, carried out
@@ -119,14 +123,36 @@ module _ (r : List ℕ) (own : ℕ) (table store work out : List ℕ) where
   call = refl
 
   -- refused with 1 to 6
-  pub quiet-step : (n : ℕ) → planOf (settingOf own table store work out) r ≡ Quiet n → outcome n 0 store work out ≡ stepOf r own table store work out
+  quiet-step : (n : ℕ) → planOf (settingOf own table store work out) r ≡ Quiet n → outcome n 0 store work out ≡ stepOf r own table store work out
   quiet-step n e =
       quiet-outcome own (headerOf r) store work out (Quiet n) tt n refl
       ∙ ap (λ (p : Plan). carriedOut own (headerOf r) p store work out) (sym e) ∙ call
 
-  module _ (p : Plan) (e : p ≡ planOf (settingOf own table store work out) r) (h : Header) (k : h ≡ headerOf r) where
-    pub step-ready : Ready p own h (length store) (length work) (length out)
-    step-ready = rw (e, k) (ready (settingOf own table store work out) r)
+  module _ (m : Bool) (me : m ≡ misfit (settingOf own table store work out) r) where
+    pub misfit-step : m ≡ true → outcome 1 0 store work out ≡ stepOf r own table store work out
+    misfit-step t = quiet-step 1 (plan-misfit (settingOf own table store work out) r (sym me ∙ t))
 
-    pub step-outcome : carriedOut own h p store work out ≡ stepOf r own table store work out
-    step-outcome = rw (e, k) call
+    module _ (fits : m ≡ false) where
+      pub own-most : own ≤ 125
+      own-most = fit (settingOf own table store work out) r (sym me ∙ fits) .own
+
+      module _ (w : Bool) (we : w ≡ wellFormed table (length store)) where
+        pub ill-formed-step : not w ≡ true → outcome 2 0 store work out ≡ stepOf r own table store work out
+        ill-formed-step t = quiet-step 2 (plan-ill-formed (settingOf own table store work out) r (sym me ∙ fits) (sym we ∙ not-true w t))
+
+        module _ (good : not w ≡ false) (h : Header) (he : h ≡ headerOf r) (n : ℕ) (ne : n ≡ firstOf (routeChecks own h)) where
+          pub unrouted-step : (n ≡ 0 → ⊥) → outcome n 0 store work out ≡ stepOf r own table store work out
+          unrouted-step z =
+              quiet-step n (plan-unrouted (settingOf own table store work out) r (sym me ∙ fits) (sym we ∙ not-false w good) n (rw he at ne) z)
+
+          module _ (z : n ≡ 0) (p : Plan) (pe : p ≡ planByService table h r) where
+            planned : p ≡ planOf (settingOf own table store work out) r
+            planned =
+                pe ∙ ap (λ (k : Header). planByService table k r) he
+                ∙ plan-request (settingOf own table store work out) r (sym me ∙ fits) (sym we ∙ not-false w good) n (rw he at ne) z
+
+            pub step-ready : Ready p own h (length store) (length work) (length out)
+            step-ready = rw (planned, he) (ready (settingOf own table store work out) r)
+
+            pub step-outcome : (o : Outcome) → o ≡ carriedOut own h p store work out → o ≡ stepOf r own table store work out
+            step-outcome o e = e ∙ rw (planned, he) call

@@ -2,7 +2,7 @@
 use Prim.Native.Nat.{ℕ, _+_, _-_, _*_, _≤_, _<_}
 use mathlib.Core.Path.{_≡_, refl, ap, sym, _∙_}
 use mathlib.Core.Bool.{true, cond, and-eq-true-iff}
-use mathlib.Core.List.{List}
+use mathlib.Core.List.{List, _++_}
 use native.Mathlib.Omega.{arith}
 use lib.ListN.{length, take, drop, length-append, length-take, length-drop}
 use lib.Dec.{leb, eqb}
@@ -15,15 +15,15 @@ use Rattle.codec.specs.Writing.{placesOf, bytesOf}
 use Rattle.table.specs.declared.Attribute.{Attribute}
 use Rattle.table.specs.Table.{endOf}
 use Rattle.join.specs.Work.{kept, base, last, areaAfter}
-use Rattle.join.specs.Code.{joinFits}
+use Rattle.join.specs.Code.{keepFits, joinFits}
 use Rattle.join.proofs.Parts.{keeps, joins, put-mid}
 use Rattle.guest.specs.Checks.{pieceOf}
 use Rattle.writes.specs.Code.{WriteReady, KeepReady, JoinReady, storedData, joinedBytes, joinedFits, storedJoined, keptPiece}
 
 -- the first places of data, as many as it has bytes
-pub places-cut : (d : Data) (n : ℕ) → n ≡ d .len → take (n - 0) (placesOf d) ≡ bytesOf d
+pub places-cut : (d : Data) (l : List ℕ) → l ≡ placesOf d → take (d .len - 0) l ≡ bytesOf d
 unfolding bytesOf
-places-cut d n e = let z : n - 0 ≡ d .len = omega arith in rw z
+places-cut d l e = let z : d .len - 0 ≡ d .len = omega arith in rw (e, z)
 
 pub bytes-long : (d : Data) → d .len ≤ 6 → length (bytesOf d) ≡ d .len
 unfolding bytesOf
@@ -39,22 +39,33 @@ joined-long a number b work h t =
     let whole = eqb-true (a .len) (4 * number + b .len) (f .1) in
     simp (length-append, length-take, length-drop) (omega (arith, bytes-long b h))
 
--- the attribute's part of the store, lent to the joiner and put back: filled where the message has its length
-pub joined-back : (a : Attribute) (number : ℕ) (b : Data) (work store m : List ℕ) → b .len ≤ 6 → endOf a ≤ length store
-    → (let part = take (endOf a - a .offset) (drop (a .offset) store) in
-    m ≡ cond (joinFits (base (a .object)) number (length (bytesOf b)) (length work) (length part)) (joinedBytes a number b work) part)
-    → putMid (a .offset) (endOf a - a .offset) store m ≡ storedJoined a number b work store
-unfolding storedJoined joinedFits
-joined-back a number b work store m h k e =
-    let at = a .offset in
-    let end = endOf a in
-    let size : length (take (end - at) (drop at store)) ≡ a .len = mid-len at end store k ∙ omega arith in
-    let fits = joinFits (base (a .object)) number (b .len) (length work) (a .len) in
-    rw (e, bytes-long b h, size)
-    (simp (le-leb (b .len) 6 h, le-leb end (length store) k)
-    (split fits
-    (λ t. simp t (put-mid at end store _ (joinedBytes a number b work) (omega (arith, joined-long a number b work h t)) refl))
-    (λ f. simp f (put-same at (end - at) store))))
+-- what the joiner leaves, given a fragment's bytes and the place of its object's record
+module _ (a : Attribute) (number : ℕ) (b : Data) (h : b .len ≤ 6) (work : List ℕ)
+    (at : ℕ) (ae : at ≡ base (a .object)) (body : List ℕ) (be : body ≡ bytesOf b) where
+  pub kept-back : (total : ℕ) (m : List ℕ)
+      → m
+      ≡ cond (keepFits at number (length body) (length work))
+      (areaAfter 4 at (record { id = a .id; total = total; number = number; bytes = body }) kept work)
+      work
+      → m ≡ keptPiece a number total b work
+  unfolding keptPiece
+  kept-back total m e = e ∙ rw (ae, be, bytes-long b h) (simp (le-leb (b .len) 6 h))
+
+  -- the attribute's part of the store, put back: filled where the message has its length
+  pub joined-back : (store m : List ℕ) → endOf a ≤ length store
+      → (let part = take (endOf a - a .offset) (drop (a .offset) store) in
+      m ≡ cond (joinFits at number (length body) (length work) (length part)) (take (4 * number) (drop (at + 4) work) ++ body) part)
+      → putMid (a .offset) (endOf a - a .offset) store m ≡ storedJoined a number b work store
+  unfolding storedJoined joinedFits
+  joined-back store m k e =
+      let start = a .offset in
+      let end = endOf a in
+      let size : length (take (end - start) (drop start store)) ≡ a .len = mid-len start end store k ∙ omega arith in
+      rw (e, ae, be, bytes-long b h, size)
+      (simp (le-leb (b .len) 6 h, le-leb end (length store) k)
+      (split (joinFits (base (a .object)) number (b .len) (length work) (a .len))
+      (λ t. simp t (put-mid start end store _ (joinedBytes a number b work) (omega (arith, joined-long a number b work h t)) refl))
+      (λ f. simp f (put-same start (end - start) store))))
 
 -- ---- of what is ready
 

@@ -1,10 +1,6 @@
-use Prim.Native.Nat.{_-_}
-use mathlib.Core.Path.{_≡_, refl, _∙_}
-use lib.ListN.{take}
-use borrow.Author.Tests.{lt-leb, le-leb}
-use Rattle.codec.specs.Writing.{bytesOf}
+use borrow.Author.Tests.{lt-leb}
 use Rattle.writes.specs.Code.{keptPiece}
-use Rattle.writes.proofs.Storing.{places-cut, bytes-long}
+use Rattle.writes.proofs.Storing.{places-cut, kept-back}
 use borrow.Author.Needs.{needs}
 use Rattle.writes.proofs.writing.keep_piece.Statement.{statement}
 use Rattle.writes.proofs.writing.keep_piece.Tie as tie
@@ -40,16 +36,14 @@ same-length : tie.Need-same-length
 same-length c = search needs
 
 returns-2 : tie.Need-returns-2
-unfolding keptPiece
 returns-2 c =
     let k = c .before .before in
     let q = k .before .before .before in
     let p = q .before .before .before in
     let i = p .before in
     let a = i .before .before .before .args in
-    let b : take (a .body .len - 0) (p .places-of .result) ≡ bytesOf (a .body) = rw (p .places-of .ensures) (places-cut (a .body) (a .body .len) refl) in
-    k .keep .ensures
-    ∙ rw (q .place-of .ensures, b, bytes-long (a .body) (i .if1 .left)) (simp (le-leb (a .body .len) 6 (i .if1 .left)))
+    let b = places-cut (a .body) (p .places-of .result) (p .places-of .ensures) in
+    kept-back (a .to) (a .number) (a .body) (i .if1 .left) (a .work .now) _ (q .place-of .ensures) _ b (a .total) _ (k .keep .ensures)
 
 pub keep-piece-spec : {M : Type 1} → statement M
 keep-piece-spec =

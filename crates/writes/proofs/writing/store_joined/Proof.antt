@@ -1,8 +1,5 @@
-use Prim.Native.Nat.{_+_, _-_}
-use mathlib.Core.Path.{_≡_, refl, _∙_}
-use lib.ListN.{length, take}
+use lib.ListN.{length}
 use borrow.Author.Tests.{lt-leb, le-leb}
-use Rattle.codec.specs.Writing.{bytesOf}
 use Rattle.table.specs.Table.{endOf}
 use Rattle.writes.specs.Code.{storedJoined, joinedFits}
 use Rattle.writes.proofs.Storing.{places-cut, joined-back}
@@ -73,9 +70,8 @@ returns-3 c =
     let j = p .before in
     let i = j .before .before .before in
     let a = i .before .before .before .before .args in
-    let b : take (a .body .len - 0) (p .places-of .result) ≡ bytesOf (a .body) = rw (p .places-of .ensures) (places-cut (a .body) (a .body .len) refl) in
-    joined-back (a .to) (a .number) (a .body) (a .work .now) (a .store .now) _ (i .if1 .left) (j .if2 .left)
-    (k .join-into .ensures ∙ rw (q .place-of .ensures, b))
+    let b = places-cut (a .body) (p .places-of .result) (p .places-of .ensures) in
+    joined-back (a .to) (a .number) (a .body) (i .if1 .left) (a .work .now) _ (q .place-of .ensures) _ b (a .store .now) _ (j .if2 .left) (k .join-into .ensures)
 
 pub store-joined-spec : {M : Type 1} → statement M
 store-joined-spec =
