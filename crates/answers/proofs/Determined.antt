@@ -1,15 +1,23 @@
 -- DETERMINATION: two outcomes that meet a public function's contract are equal, in the count and every lent byte, and the contract asks nothing of a caller.
 use mathlib.Core.Path.{_≡_, sym, _∙_}
 use denote.Ref.{now}
-use Rattle.answers.proofs.answering.send_bare.Reads as send-bare
+use Rattle.answers.proofs.answering.refuse.Reads as refuse
+use Rattle.answers.proofs.answering.acknowledge.Reads as acknowledge
 use Rattle.answers.proofs.answering.send_part.Reads as send-part
 
-pub send-bare-determined : (κs : _) (args : _) (r r' : _) (s s' : _) → send-bare.Post κs args r s → send-bare.Post κs args r' s'
-    → now (s .1 .1 .1 .0) ≡ now (s' .1 .1 .1 .0)
-send-bare-determined κs args r r' s s' p q = p ∙ sym q
+pub refuse-determined : (κs : _) (args : _) (r r' : _) (s s' : _) → refuse.Post κs args r s → refuse.Post κs args r' s'
+    → now (s .1 .1 .0) ≡ now (s' .1 .1 .0)
+refuse-determined κs args r r' s s' p q = p ∙ sym q
 
-pub send-bare-asks-nothing : (κs : _) (args : _) → send-bare.Asked κs args
-send-bare-asks-nothing κs args = tt
+pub refuse-asks-nothing : (κs : _) (args : _) → refuse.Asked κs args
+refuse-asks-nothing κs args = tt
+
+pub acknowledge-determined : (κs : _) (args : _) (r r' : _) (s s' : _) → acknowledge.Post κs args r s → acknowledge.Post κs args r' s'
+    → now (s .1 .1 .0) ≡ now (s' .1 .1 .0)
+acknowledge-determined κs args r r' s s' p q = p ∙ sym q
+
+pub acknowledge-asks-nothing : (κs : _) (args : _) → acknowledge.Asked κs args
+acknowledge-asks-nothing κs args = tt
 
 pub send-part-determined : (κs : _) (args : _) (r r' : _) (s s' : _) → send-part.Post κs args r s → send-part.Post κs args r' s'
     → (r ≡ r') × (now (s .1 .1 .1 .0) ≡ now (s' .1 .1 .1 .0))

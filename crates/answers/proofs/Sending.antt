@@ -18,11 +18,12 @@ use Rattle.octets.proofs.Datas.{data-taken, tidy-data}
 use Rattle.codec.specs.declared.Header.{Header}
 use Rattle.codec.specs.declared.Message.the-variants.{Plain}
 use Rattle.codec.specs.declared.Subject.{Subject}
+use Rattle.codec.specs.Names.{successful, erroneous}
 use Rattle.codec.specs.Writing.{frameOf, imageOf}
 use Rattle.codec.specs.Code.{longPlaces, putLong}
 use Rattle.codec.proofs.Fits.{subject-fits}
 use Rattle.codec.proofs.Images.{places-are-image}
-use Rattle.guest.specs.Step.{answering, fragmentFrame, fragmentFrames, readFrames, flat, sent}
+use Rattle.guest.specs.Step.{answering, errorFrame, successFrame, fragmentFrame, fragmentFrames, readFrames, flat, sent}
 use Rattle.guest.proofs.Frames.{fragment-ten, fragments-ten, fragments-count, flat-length, answering-fits}
 use Rattle.answers.specs.Code.{Answerable, answerable, bare, partFits, partCount, partSent}
 
@@ -107,7 +108,7 @@ answerable-exactly own h out = (ranges, λ f. simp (le-leb _ _ (f .address), le-
         }
 
 module _ (own : ℕ) (h : Header) (out : List ℕ) (f : Answerable own h (length out)) where
-  pub bare-sent : (response : ℕ) → response ≤ 3 → bare own h response out ≡ sent (imageOf (Plain (answering own h response) (dataOf [])) ∷ []) out
+  bare-sent : (response : ℕ) → response ≤ 3 → bare own h response out ≡ sent (imageOf (Plain (answering own h response) (dataOf [])) ∷ []) out
   unfolding bare imageOf frameOf
   bare-sent response m =
       let u = answering own h response in
@@ -115,6 +116,14 @@ module _ (own : ℕ) (h : Header) (out : List ℕ) (f : Answerable own h (length
       simp (le-leb 10 (length out) (omega (arith, f .room)))
       (rw (places-are-image u 0 (dataOf []) fits (omega arith) (tidy-data [] (omega arith) 6 (omega arith)))
       (sym (sent-one (imageOf (Plain u (dataOf []))) out)))
+
+  pub refused : bare own h erroneous out ≡ sent (errorFrame own h ∷ []) out
+  unfolding errorFrame
+  refused = bare-sent erroneous (omega arith)
+
+  pub acknowledged : bare own h successful out ≡ sent (successFrame own h ∷ []) out
+  unfolding successFrame
+  acknowledged = bare-sent successful (omega arith)
 
   module _ (bs : List ℕ) (m : length bs ≤ 255) where
     part-fits : partFits own h bs (length out) ≡ true

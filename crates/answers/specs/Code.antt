@@ -1,4 +1,4 @@
--- What the code puts, for every input; `bare-sent` and `part-sent` say that of what fits it is what 01 says.
+-- What the code puts, for every input; `refused`, `acknowledged` and `part-sent` say that of what fits it is what 01 says.
 use Prim.Native.Nat.{ℕ, _≤_}
 use mathlib.Core.Bool.{Bool, cond, _&&_}
 use mathlib.Core.List.{List, []}

@@ -6,11 +6,17 @@ ghost use Prim.Native.Nat.{_+_, _*_, _/_, _≤_, _<_};
 ghost use lib.ListN.{length};
 ghost use Rattle.laws.specs.Put.{put};
 ghost use Rattle.octets.specs.Data.{dataOf, tidy};
+ghost use Rattle.codec.specs.Names.{successful, erroneous};
 ghost use Rattle.codec.specs.Writing.{imageOf, subjectFits};
 ghost use Rattle.codec.specs.Code.{longPlaces};
 ghost use Rattle.codec.specs.declared.Message.the-variants.{Plain, Fragment};
 ghost use Rattle.guest.specs.Step.{answering as Step·answering, fragmentFrame, fragmentFrames, readFrames, sent};
 ghost use Rattle.answers.specs.Code.{Answerable, answerable as Code·answerable, bare, partCount, partSent};
+
+// What an answer says of the request (000, figure 3.8).
+const SUCCESSFUL: u8 = 1;
+
+const ERRONEOUS: u8 = 2;
 
 // From our address, with the request's service, object and ID.
 fn answering(own: u8, h: codec::Header, response: u8) -> codec::Subject
@@ -37,7 +43,7 @@ fn send(about: codec::Subject, flag: u8, payload: octets::Data, n: usize, out: &
 }
 
 // One frame, flag clear, with no data. Nothing is tested but that it has room.
-pub fn send_bare(own: u8, h: codec::Header, response: u8, out: &mut [u8])
+fn send_bare(own: u8, h: codec::Header, response: u8, out: &mut [u8])
     ensures { λ _. ⌜ now (out .exit) ≡ bare own h response (now (out .entry)) ⌝ }
 {
     if out.len() < 10 {
@@ -52,12 +58,26 @@ pub fn send_bare(own: u8, h: codec::Header, response: u8, out: &mut [u8])
     );
 }
 
+// "Refusals 7 to 14 put one frame: Error, flag clear, DLC 2".
+pub fn refuse(own: u8, h: codec::Header, out: &mut [u8])
+    ensures { λ _. ⌜ now (out .exit) ≡ bare own h erroneous (now (out .entry)) ⌝ }
+{
+    send_bare(own, h, ERRONEOUS, out);
+}
+
+// A Write that is done: "one Successful frame, flag clear, DLC 2".
+pub fn acknowledge(own: u8, h: codec::Header, out: &mut [u8])
+    ensures { λ _. ⌜ now (out .exit) ≡ bare own h successful (now (out .entry)) ⌝ }
+{
+    send_bare(own, h, SUCCESSFUL, out);
+}
+
 // One Successful frame, flag clear, with the bytes of a slice.
 fn send_plain(own: u8, h: codec::Header, bytes: &[u8], out: &mut [u8])
     requires { ⌜ Answerable own h (length (now out)) × (length (now bytes) ≤ 6) ⌝ }
-    ensures { λ _. ⌜ now (out .exit) ≡ sent (imageOf (Plain (Step·answering own h 1) (dataOf (now (bytes .entry)))) ∷ []) (now (out .entry)) ⌝ }
+    ensures { λ _. ⌜ now (out .exit) ≡ sent (imageOf (Plain (Step·answering own h successful) (dataOf (now (bytes .entry)))) ∷ []) (now (out .entry)) ⌝ }
 {
-    let about = answering(own, h, 1);
+    let about = answering(own, h, SUCCESSFUL);
     let body = octets::data_from(bytes);
     send(about, 0, body, 0, out);
 }
@@ -130,7 +150,7 @@ fn send_fitting(own: u8, h: codec::Header, part: &[u8], out: &mut [u8]) -> u8
         return 1;
     }
     let count = (part.len() + 3) / 4;
-    send_fragments(answering(own, h, 1), part, count, out);
+    send_fragments(answering(own, h, SUCCESSFUL), part, count, out);
     count as u8
 }
 

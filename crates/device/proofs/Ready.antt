@@ -20,7 +20,8 @@ use Rattle.guest.specs.Checks.{Setting, misfit, noService, planChecks}
 use Rattle.guest.specs.Step.{planOf}
 use Rattle.guest.proofs.Plans.{fit, Sound, sound}
 use Rattle.answers.specs.Code.{Answerable}
-use Rattle.device.specs.Code.{KeepReady, Ready}
+use Rattle.writes.specs.Code.{KeepReady}
+use Rattle.device.specs.Code.{Ready}
 
 -- a frame that gets an answer frame has passed checks 1 and 5
 answerable : (s : Setting) (r : List ℕ) → misfit s r ≡ false → noService (headerOf r) ≡ false → Answerable (s .own) (headerOf r) (s .out)

@@ -1,93 +1,22 @@
 // What a plan does: all that alters the lent areas.
 ghost use mathlib.Core.Path.{_≡_};
-ghost use mathlib.Core.Bool.{true};
-ghost use mathlib.Core.List.{[], _∷_};
-ghost use Prim.Native.Nat.{_≤_};
 ghost use lib.ListN.{length};
-ghost use Rattle.laws.specs.Put.{put};
-ghost use Rattle.octets.specs.Data.{bytesOf};
 ghost use Rattle.table.specs.Table.{partOf};
-ghost use Rattle.join.specs.Work.{kept, base, last, areaAfter};
-ghost use Rattle.guest.specs.Checks.{pieceOf};
-ghost use Rattle.guest.specs.Step.{errorFrame, successFrame, readFrames, sent};
-ghost use Rattle.answers.specs.Code.{Answerable};
-ghost use Rattle.device.specs.Code.{WriteReady, KeepReady, JoinReady, Ready, joinedBytes, outcome, carriedOut};
+ghost use Rattle.answers.specs.Code.{Answerable, partCount, partSent};
+ghost use Rattle.writes.specs.Code.{JoinReady};
+ghost use Rattle.device.specs.Code.{Ready, outcome, carriedOut};
 use crate::Reply;
 use codec::Header;
 use guest::Plan;
 use octets::Data;
 use table::Attribute;
 
-// One error frame.
-fn refuse(own: u8, h: Header, out: &mut [u8])
-    requires { ⌜ Answerable own h (length (now out)) ⌝ }
-    ensures { λ _. ⌜ now (out .exit) ≡ sent (errorFrame own h ∷ []) (now (out .entry)) ⌝ }
-{
-    answers::send_bare(own, h, 2, out);
-}
-
-// One Successful frame with no data.
-fn acknowledge(own: u8, h: Header, out: &mut [u8])
-    requires { ⌜ Answerable own h (length (now out)) ⌝ }
-    ensures { λ _. ⌜ now (out .exit) ≡ sent (successFrame own h ∷ []) (now (out .entry)) ⌝ }
-{
-    answers::send_bare(own, h, 1, out);
-}
-
 // The frames of a Read, cut from the attribute's part of the store; how many they are.
 fn show(own: u8, h: Header, a: Attribute, store: &[u8], out: &mut [u8]) -> u8
-    requires { ⌜ Answerable own h (length (now out)) × (a .len ≤ 255) ⌝ }
-    ensures { λ r. ⌜ (r ≡ length (readFrames own h (partOf a (now (store .entry)))))
-        × (now (out .exit) ≡ sent (readFrames own h (partOf a (now (store .entry)))) (now (out .entry))) ⌝ }
+    ensures { λ r. ⌜ (r ≡ partCount own h (partOf a (now (store .entry))) (now (out .entry)))
+        × (now (out .exit) ≡ partSent own h (partOf a (now (store .entry))) (now (out .entry))) ⌝ }
 {
     answers::send_part(own, h, table::part(a, store), out)
-}
-
-// A whole Write: the store's middle part at offset and length is lent to the copying routine.
-fn store_data(to: Attribute, body: Data, store: &mut [u8])
-    requires { ⌜ WriteReady to body (length (now store)) ⌝ }
-    ensures { λ _. ⌜ now (store .exit) ≡ put (now (store .entry)) (to .offset) (bytesOf body) ⌝ }
-{
-    let places = octets::places_of(body);
-    let n = body.len as usize;
-    let at = to.offset as usize;
-    let end = at + n;
-    bytes::copy(&places[0..n], &mut store[at..end]);
-}
-
-// The last fragment: the joined bytes are written into the attribute's part of the store.
-fn store_joined(to: Attribute, number: u8, total: u8, body: Data, work: &[u8], store: &mut [u8])
-    requires { ⌜ JoinReady to number total body (length (now store)) (length (now work)) × (last 4 (pieceOf (to .id) number total body) ≡ true) ⌝ }
-    ensures { λ _. ⌜ now (store .exit) ≡ put (now (store .entry)) (to .offset) (joinedBytes to number body (now (work .entry))) ⌝ }
-{
-    let places = octets::places_of(body);
-    let n = body.len as usize;
-    let start = to.offset as usize;
-    let end = start + to.len as usize;
-    join::join_into(
-        work,
-        join::place_of(to.object),
-        number,
-        &places[0..n],
-        &mut store[start..end],
-    );
-}
-
-// A fragment before the last: it is kept in the object's record.
-fn keep_piece(to: Attribute, number: u8, total: u8, body: Data, work: &mut [u8])
-    requires { ⌜ KeepReady to number total body (length (now work)) ⌝ }
-    ensures { λ _. ⌜ now (work .exit) ≡ areaAfter 4 (base (to .object)) (pieceOf (to .id) number total body) kept (now (work .entry)) ⌝ }
-{
-    let places = octets::places_of(body);
-    let n = body.len as usize;
-    join::keep(
-        work,
-        join::place_of(to.object),
-        to.id,
-        total,
-        number,
-        &places[0..n],
-    );
 }
 
 // A fragment of a Write: out of order, the last, or kept.
@@ -109,22 +38,22 @@ fn apply_join(
     let at = join::place_of(to.object);
     if join::is_astray(work, at, to.id, total, number) {
         join::clear(work, at);
-        refuse(own, h, out);
+        answers::refuse(own, h, out);
         return Reply {
             number: 14,
             count: 1,
         };
     }
     if join::is_last(total, number) {
-        store_joined(to, number, total, body, work, store);
+        writes::store_joined(to, number, body, work, store);
         join::clear(work, at);
-        acknowledge(own, h, out);
+        answers::acknowledge(own, h, out);
         return Reply {
             number: 0,
             count: 1,
         };
     }
-    keep_piece(to, number, total, body, work);
+    writes::keep_piece(to, number, total, body, work);
     Reply {
         number: 0,
         count: 0,
@@ -147,7 +76,7 @@ pub(crate) fn apply(
     match plan {
         Plan::Quiet(number) => Reply { number, count: 0 },
         Plan::Error { number, object: _ } => {
-            refuse(own, h, out);
+            answers::refuse(own, h, out);
             Reply { number, count: 1 }
         }
         Plan::Read(a) => {
@@ -155,8 +84,8 @@ pub(crate) fn apply(
             Reply { number: 0, count }
         }
         Plan::Write { to, body } => {
-            store_data(to, body, store);
-            acknowledge(own, h, out);
+            writes::store_data(to, body, store);
+            answers::acknowledge(own, h, out);
             Reply {
                 number: 0,
                 count: 1,

@@ -1,5 +1,5 @@
-// What a guest does with one frame (01, "One frame, one reply"): its meaning, in specs/, and the laws about it. No function: the code stands in judge, answers
-// and device, over this type.
+// What a guest does with one frame (01, "One frame, one reply"): its meaning, in specs/, and the laws about it. No function: the code stands in judge, answers,
+// writes and device, over this type.
 
 // What a frame asks for, decided by checks 1 to 13 and no state.
 pub enum Plan {

@@ -51,10 +51,19 @@ tidy-more most more d h t =
     simp (le-leb (d .len) more (omega (arith, tidy-most most d t)))
     (and-eq-true-iff (leb (d .len) most) (zeros (drop (d .len) (placesOf d))) .0 t .1)
 
+-- the bytes are as many as their count says, where there are places for them
+pub bytes-counted : (d : Data) → d .len ≤ 6 → length (bytesOf d) ≡ d .len
+unfolding bytesOf
+bytes-counted d h = length-take-le (d .len) (placesOf d) h
+
+-- and the code takes them from the places
+pub places-cut : (d : Data) (l : List ℕ) → l ≡ placesOf d → take (d .len - 0) l ≡ bytesOf d
+unfolding bytesOf
+places-cut d l e = let z : d .len - 0 ≡ d .len = omega arith in rw (e, z)
+
 module _ (d : Data) (t : tidy 6 d ≡ true) where
   pub bytes-length : length (bytesOf d) ≡ d .len
-  unfolding bytesOf
-  bytes-length = length-take-le (d .len) (placesOf d) (tidy-most 6 d t)
+  bytes-length = bytes-counted d (tidy-most 6 d t)
 
   pub bytes-padded : padded 6 (bytesOf d) ≡ placesOf d
   unfolding bytesOf tidy

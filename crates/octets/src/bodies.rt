@@ -6,12 +6,13 @@ ghost use lib.ListN.{take, drop};
 ghost use Rattle.laws.specs.Bytes.{zeros};
 ghost use Rattle.octets.specs.Data.{dataOf, placesOf, tidy};
 use crate::Data;
+use crate::MOST;
 use crate::places::byte_at;
 
 fn least_of_six(n: usize) -> u8
     ensures { λ r. ⌜ r ≡ min 6 n ⌝ }
 {
-    if 6 < n { 6 } else { n as u8 }
+    if (MOST as usize) < n { MOST } else { n as u8 }
 }
 
 pub fn no_data() -> Data

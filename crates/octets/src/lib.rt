@@ -8,6 +8,9 @@ pub use bodies::no_data;
 pub use bodies::places_of;
 pub use places::byte_at;
 
+// The most bytes that data has places for.
+pub const MOST: u8 = 6;
+
 // len data bytes, at most six. A place that is not used holds 0.
 pub struct Data {
     pub len: u8,

@@ -1,8 +1,4 @@
-use mathlib.Core.Path.{subst}
-use lib.ListN.{length}
-use Rattle.guest.specs.declared.Plan.{Plan}
-use Rattle.device.specs.Code.{Ready}
-use Rattle.device.proofs.Outcomes.{quiet-outcome, error-outcome, read-outcome, write-outcome}
+use Rattle.device.proofs.Outcomes.{ready-as, quiet-outcome, error-outcome, read-outcome, write-outcome}
 use borrow.Author.Needs.{needs}
 use Rattle.device.proofs.applying.apply.Statement.{statement}
 use Rattle.device.proofs.applying.apply.Tie as tie
@@ -14,42 +10,22 @@ enum-known-plan-2 : tie.Need-enum-known-plan-2
 enum-known-plan-2 c = search needs
 
 refuse-requires : tie.Need-refuse-requires
-refuse-requires c κs =
-    let p = c .before .before in
-    let s = p .before .before .before .before .before in
-    let a = s .args in
-    let r = subst (λ (p : Plan). Ready p (a .own) (a .h) (length (a .store .now)) (length (a .work .now)) (length (a .out .now))) (p .plan2 .given .1) (s .pre) in
-    r
+refuse-requires c κs = search needs
 
 enum-known-plan-3 : tie.Need-enum-known-plan-3
 enum-known-plan-3 c = search needs
 
 show-requires : tie.Need-show-requires
-show-requires c κs =
-    let p = c .before .before .before in
-    let s = p .before .before .before .before .before in
-    let a = s .args in
-    let r = subst (λ (p : Plan). Ready p (a .own) (a .h) (length (a .store .now)) (length (a .work .now)) (length (a .out .now))) (p .plan3 .given .1) (s .pre) in
-    r
+show-requires c κs = search needs
 
 enum-known-plan-4 : tie.Need-enum-known-plan-4
 enum-known-plan-4 c = search needs
 
 store-data-requires : tie.Need-store-data-requires
-store-data-requires c κs =
-    let p = c .before .before in
-    let s = p .before .before .before .before .before in
-    let a = s .args in
-    let r = subst (λ (p : Plan). Ready p (a .own) (a .h) (length (a .store .now)) (length (a .work .now)) (length (a .out .now))) (p .plan4 .given .1) (s .pre) in
-    r .1
+store-data-requires c κs = search needs
 
 acknowledge-requires : tie.Need-acknowledge-requires
-acknowledge-requires c κs =
-    let p = c .before .before .before .before .before .before in
-    let s = p .before .before .before .before .before in
-    let a = s .args in
-    let r = subst (λ (p : Plan). Ready p (a .own) (a .h) (length (a .store .now)) (length (a .work .now)) (length (a .out .now))) (p .plan4 .given .1) (s .pre) in
-    r .0
+acknowledge-requires c κs = search needs
 
 enum-known-plan-5 : tie.Need-enum-known-plan-5
 enum-known-plan-5 c = search needs
@@ -59,14 +35,14 @@ apply-join-requires c κs =
     let p = c .before .before .before .before in
     let s = p .before .before .before .before .before in
     let a = s .args in
-    let r = subst (λ (p : Plan). Ready p (a .own) (a .h) (length (a .store .now)) (length (a .work .now)) (length (a .out .now))) (p .plan5 .given .1) (s .pre) in
-    r
+    ready-as (a .own) (a .h) (a .store .now) (a .work .now) (a .out .now) (a .plan) (s .pre) _ (p .plan5 .given .1)
 
 returns : tie.Need-returns
 returns c =
     let p = c .before in
-    let a = p .before .before .before .before .before .args in
-    rw (p .plan .given .1) (quiet-outcome (a .own) (a .h) (a .store .now) (a .work .now) (a .out .now) _)
+    let s = p .before .before .before .before .before in
+    let a = s .args in
+    quiet-outcome (a .own) (a .h) (a .store .now) (a .work .now) (a .out .now) (a .plan) (s .pre) _ (p .plan .given .1)
 
 same-length : tie.Need-same-length
 same-length c = search needs
@@ -77,8 +53,7 @@ returns-2 c =
     let p = w .before .before .before in
     let s = p .before .before .before .before .before in
     let a = s .args in
-    rw (p .plan2 .given .1)
-    (error-outcome (a .own) (a .h) (a .store .now) (a .work .now) (a .out .now) _ _ _ (w .refuse .ensures))
+    error-outcome (a .own) (a .h) (a .store .now) (a .work .now) (a .out .now) (a .plan) (s .pre) _ _ (p .plan2 .given .1) _ (w .refuse .ensures)
 
 same-length-2 : tie.Need-same-length-2
 same-length-2 c = search needs
@@ -92,8 +67,7 @@ returns-3 c =
     let p = w .before .before .before .before in
     let s = p .before .before .before .before .before in
     let a = s .args in
-    rw (p .plan3 .given .1)
-    (read-outcome (a .own) (a .h) (a .store .now) (a .work .now) (a .out .now) _ _ _ (w .show .ensures .0) (w .show .ensures .1))
+    read-outcome (a .own) (a .h) (a .store .now) (a .work .now) (a .out .now) (a .plan) (s .pre) _ (p .plan3 .given .1) _ _ (w .show .ensures)
 
 same-length-4 : tie.Need-same-length-4
 same-length-4 c = search needs
@@ -108,8 +82,7 @@ returns-4 c =
     let p = d .before .before .before in
     let s = p .before .before .before .before .before in
     let a = s .args in
-    rw (p .plan4 .given .1)
-    (write-outcome (a .own) (a .h) (a .store .now) (a .work .now) (a .out .now) _ _ _ _ (d .store-data .ensures) (w .acknowledge .ensures))
+    write-outcome (a .own) (a .h) (a .store .now) (a .work .now) (a .out .now) (a .plan) (s .pre) _ _ (p .plan4 .given .1) _ _ (d .store-data .ensures) (w .acknowledge .ensures)
 
 same-length-6 : tie.Need-same-length-6
 same-length-6 c = search needs

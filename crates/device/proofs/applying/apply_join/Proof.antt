@@ -1,4 +1,3 @@
-use mathlib.Core.Path.{sym, _∙_}
 use Rattle.device.proofs.Outcomes.{lost-outcome, done-outcome, kept-outcome}
 use borrow.Author.Needs.{needs}
 use Rattle.device.proofs.applying.apply_join.Statement.{statement}
@@ -31,18 +30,14 @@ returns c =
     let q = t .before .before in
     let s = q .before .before .before .before in
     let a = s .args in
-    lost-outcome (a .to) (a .number) (a .total) (a .body) (a .own) (a .h) (a .store .now) (a .work .now) (a .out .now) (s .pre .1 .0)
-    _ (q .place-of .ensures) (sym (t .is-astray .ensures) ∙ i .if1 .taken) _ _ (e .clear .ensures) (f .refuse .ensures)
+    lost-outcome (a .to) (a .number) (a .total) (a .body) (a .own) (a .h) (a .store .now) (a .work .now) (a .out .now) (s .pre .0) (s .pre .1)
+    _ (q .place-of .ensures) _ (t .is-astray .ensures) (i .if1 .taken) _ _ (e .clear .ensures) (f .refuse .ensures)
 
 is-last-requires : tie.Need-is-last-requires
 is-last-requires c κs = search needs
 
 store-joined-requires : tie.Need-store-joined-requires
-store-joined-requires c κs =
-    let i = c .before .before in
-    let l = i .before in
-    let s = l .before .before .before .before .before .before .before .before in
-    (s .pre .1, sym (l .is-last .ensures) ∙ i .if2 .taken)
+store-joined-requires c κs = search needs
 
 clear-requires-2 : tie.Need-clear-requires-2
 clear-requires-2 c κs = search needs
@@ -71,8 +66,8 @@ returns-2 c =
     let q = t .before .before in
     let s = q .before .before .before .before in
     let a = s .args in
-    done-outcome (a .to) (a .number) (a .total) (a .body) (a .own) (a .h) (a .store .now) (a .work .now) (a .out .now) (s .pre .1 .0)
-    _ (q .place-of .ensures) (sym (t .is-astray .ensures) ∙ o .if1 .left) (sym (l .is-last .ensures) ∙ i .if2 .taken)
+    done-outcome (a .to) (a .number) (a .total) (a .body) (a .own) (a .h) (a .store .now) (a .work .now) (a .out .now) (s .pre .0) (s .pre .1)
+    _ (q .place-of .ensures) _ (t .is-astray .ensures) (o .if1 .left) _ (l .is-last .ensures) (i .if2 .taken)
     _ _ _ (j .store-joined .ensures) (e .clear2 .ensures) (g .acknowledge .ensures)
 
 keep-piece-requires : tie.Need-keep-piece-requires
@@ -91,8 +86,8 @@ returns-3 c =
     let q = t .before .before in
     let s = q .before .before .before .before in
     let a = s .args in
-    kept-outcome (a .to) (a .number) (a .total) (a .body) (a .own) (a .h) (a .store .now) (a .work .now) (a .out .now) (s .pre .1 .0)
-    _ (q .place-of .ensures) (sym (t .is-astray .ensures) ∙ o .if1 .left) (sym (l .is-last .ensures) ∙ i .if2 .left)
+    kept-outcome (a .to) (a .number) (a .total) (a .body) (a .own) (a .h) (a .store .now) (a .work .now) (a .out .now) (s .pre .0) (s .pre .1)
+    _ (q .place-of .ensures) _ (t .is-astray .ensures) (o .if1 .left) _ (l .is-last .ensures) (i .if2 .left)
     _ (k .keep-piece .ensures)
 
 pub apply-join-spec : {M : Type 1} → statement M
