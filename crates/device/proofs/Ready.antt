@@ -1,7 +1,7 @@
 -- Every plan that the checks let through can be carried out.
 use Prim.Native.Nat.{ℕ}
 use mathlib.Core.Path.{_≡_, refl, sym, _∙_}
-use mathlib.Core.Bool.{false, _||_}
+use mathlib.Core.Bool.{false}
 use mathlib.Mathlib.Data.Bool.Basic.{or-eq-false-eq-eq-false-and-eq-false as neither}
 use mathlib.Core.List.{List}
 use native.Mathlib.Omega.{arith}

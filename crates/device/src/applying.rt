@@ -1,4 +1,4 @@
-// What a plan does: all that alters the lent areas.
+// A plan carried out: all that alters the lent areas is done from here, by writes, join and answers.
 ghost use mathlib.Core.Path.{_≡_};
 ghost use lib.ListN.{length};
 ghost use Rattle.table.specs.Table.{partOf};
