@@ -1,20 +1,23 @@
 -- The ten bytes of a written record, one by one.
 use Prim.Native.Nat.{ℕ, suc, _+_, _-_, _*_, _%_, _≤_}
 use mathlib.Core.Path.{_≡_, refl, sym, ap, _∙_}
-use mathlib.Core.Bool.{true}
+use mathlib.Core.Bool.{Bool, true, cond, _&&_, and-eq-true-iff}
 use mathlib.Core.List.{List, [], _∷_, _++_}
 use native.Mathlib.Omega.{arith}
-use lib.ListN.{length, drop, replicate, length-drop}
-use lib.Seq.{getD-drop}
+use lib.ListN.{length, take, drop, length-take, length-drop}
+use lib.Seq.{take-all, getD-drop}
+use borrow.Author.Tests.{eq-eqb}
 use Rattle.laws.specs.Bytes.{padded}
 use Rattle.laws.proofs.Bytes.{length-padded}
+use Rattle.laws.proofs.Tests.{split}
 use Rattle.octets.specs.declared.Data.{Data}
 use Rattle.octets.specs.Data.{dataOf, placesOf, bytesOf, tidy}
 use Rattle.octets.proofs.Datas.{tidy-most, tidy-more, tidy-data, bytes-data, bytes-length, bytes-padded, byte-place}
 use Rattle.codec.specs.declared.Subject.{Subject}
-use Rattle.codec.specs.declared.Message.the-variants.{Plain, Fragment}
-use Rattle.codec.specs.Writing.{subjectFits, longFrame, frameOf, imageOf}
-use Rattle.codec.specs.Code.{prefixed, unprefixed, longPlaces}
+use Rattle.codec.specs.declared.Message.{Message}
+use Rattle.codec.specs.declared.Message.the-variants.{Short, Plain, Fragment}
+use Rattle.codec.specs.Writing.{subjectFits, shortFits, carried, canHeader, longFrame, frameOf, imageOf, writeNumber, writtenOf}
+use Rattle.codec.specs.Code.{prefixed, unprefixed, longPlaces, putLong}
 use Rattle.codec.proofs.Fits.{subject-fits}
 
 -- four bytes, then what stands behind the ID, padded
@@ -80,3 +83,52 @@ pub data-unprefixed : (d : Data) → tidy 6 d ≡ true → unprefixed d ≡ data
 unfolding dataOf unprefixed
 data-unprefixed d t =
     simp (length-drop, bytes-length d t, getD-drop 2 (bytesOf d), byte-place d t 2, byte-place d t 3, byte-place d t 4, byte-place d t 5, byte-place d t 6, byte-place d t 7)
+
+-- what stands behind an ID, as the code takes it from the record, is at most six bytes
+pub payload-part : (dlc : ℕ) (l : List ℕ) → dlc ≤ 8 → dataOf (take 6 (take (dlc + 2 - 4) l)) ≡ dataOf (take (dlc - 2) l)
+payload-part dlc l h =
+    let n : dlc + 2 - 4 ≡ dlc - 2 = omega arith in
+    rw n (ap dataOf (take-all 6 (take (dlc - 2) l) (simp length-take (omega arith))))
+
+-- ---- what writing answers and leaves, from a test of whether the message fits and what is then put
+
+abbrev Leaves : Bool → List ℕ → List ℕ → ℕ → List ℕ → Type 0
+Leaves fits l r number after = (number ≡ cond fits 0 3) × (after ≡ cond fits l r)
+
+module _ (r : List ℕ) (h : length r ≡ 10) (number : ℕ) (after : List ℕ) where
+  written-by : (m : Message) (l : List ℕ) → (carried m ≡ true → l ≡ imageOf m) → Leaves (carried m) l r number after
+      → (number ≡ writeNumber m r) × (after ≡ writtenOf m r)
+  unfolding writeNumber writtenOf
+  written-by m l e w =
+      let ten = eq-eqb (length r) 10 h in
+      split (carried m)
+      (λ t. (w .0 ∙ simp (t, ten), w .1 ∙ simp (t, ten) (e t)))
+      (λ f. (w .0 ∙ simp (f, ten), w .1 ∙ simp (f, ten)))
+
+  pub short-written : (dir address service : ℕ) → Leaves (shortFits dir address service) (padded 10 (canHeader dir address service 0)) r number after
+      → (number ≡ writeNumber (Short dir address service) r) × (after ≡ writtenOf (Short dir address service) r)
+  unfolding carried imageOf frameOf
+  short-written dir address service w = written-by (Short dir address service) (padded 10 (canHeader dir address service 0)) (λ t. refl) w
+
+  pub plain-written : (u : Subject) (b : Data) (fits : Bool) → fits ≡ subjectFits u && tidy 6 b → Leaves fits (putLong u 0 b r) r number after
+      → (number ≡ writeNumber (Plain u b) r) × (after ≡ writtenOf (Plain u b) r)
+  unfolding carried imageOf frameOf putLong
+  plain-written u b fits e w =
+      written-by (Plain u b) (putLong u 0 b r)
+      (λ t.
+      let f = and-eq-true-iff (subjectFits u) (tidy 6 b) .0 t in
+      simp (eq-eqb (length r) 10 h) (places-are-image u 0 b (f .0) (omega arith) (f .1)))
+      (rw e at w)
+
+  pub fragment-written : (u : Subject) (n total : ℕ) (b : Data) (fits : Bool) → fits ≡ subjectFits u && tidy 4 b
+      → (p : Data) → p ≡ prefixed n total b → Leaves fits (putLong u 1 p r) r number after
+      → (number ≡ writeNumber (Fragment u n total b) r) × (after ≡ writtenOf (Fragment u n total b) r)
+  unfolding carried imageOf frameOf putLong
+  fragment-written u n total b fits e p q w =
+      written-by (Fragment u n total b) (putLong u 1 (prefixed n total b) r)
+      (λ t.
+      let f = and-eq-true-iff (subjectFits u) (tidy 4 b) .0 t in
+      let w = fragment-payload n total b (f .1) in
+      simp (eq-eqb (length r) 10 h, prefixed-is n total b (f .1)) (places-are-image u 1 _ (f .0) (omega arith) (w .0))
+      ∙ ap (λ (p : List ℕ). padded 10 (longFrame u 1 p)) (w .1))
+      (rw (e, q) at w)

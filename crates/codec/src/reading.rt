@@ -14,6 +14,7 @@ use crate::Message;
 use crate::Subject;
 use crate::heading::header_of;
 use octets::Data;
+use octets::data_from;
 use octets::no_data;
 
 // Why a record of ten bytes with this header is refused; 0 where it is read. The order is 01's.
@@ -61,30 +62,6 @@ pub fn subject_of(h: Header) -> Subject
     }
 }
 
-// The byte of a place among the first so many; 0 beyond them.
-fn counted(byte: u8, place: u8, count: u8) -> u8
-    ensures { λ r. ⌜ r ≡ cond (ltb place count) byte 0 ⌝ }
-{
-    if place < count { byte } else { 0 }
-}
-
-// What stands behind the ID of a record of ten bytes whose DLC is 2 to 8. All six places are read and those beyond the DLC cleared, which costs less
-// than to test before each.
-fn payload_of_ten(frame: &[u8], len: u8) -> Data
-    requires { ⌜ (length (now frame) ≡ 10) × (len ≤ 6) ⌝ }
-    ensures { λ r. ⌜ r ≡ dataOf (take len (drop 4 (now (frame .entry)))) ⌝ }
-{
-    Data {
-        len,
-        b0: counted(frame[4], 0, len),
-        b1: counted(frame[5], 1, len),
-        b2: counted(frame[6], 2, len),
-        b3: counted(frame[7], 3, len),
-        b4: counted(frame[8], 4, len),
-        b5: counted(frame[9], 5, len),
-    }
-}
-
 // What stands behind the ID, up to the DLC. Nothing of a record that is not ten bytes long, or whose DLC is over 8.
 pub fn payload_of(frame: &[u8]) -> Data
     ensures { λ r. ⌜ r ≡ payloadData (now (frame .entry)) ⌝ }
@@ -99,7 +76,8 @@ pub fn payload_of(frame: &[u8]) -> Data
     if h.dlc < 2 {
         return no_data();
     }
-    payload_of_ten(frame, h.dlc - 2)
+    let end = h.dlc as usize + 2;
+    data_from(&frame[4..end])
 }
 
 // What stands behind a fragment's number and total: the way back from `prefixed`.

@@ -1,10 +1,10 @@
 // Writing: a message to the ten bytes of a record that carries it.
 ghost use mathlib.Core.Path.{_≡_};
-ghost use mathlib.Core.Bool.{true, _&&_};
+ghost use mathlib.Core.Bool.{true, cond, _&&_};
 ghost use lib.ListN.{length};
 ghost use Rattle.laws.specs.Bytes.{padded};
 ghost use Rattle.octets.specs.Data.{tidy};
-ghost use Rattle.codec.specs.Writing.{subjectFits, shortFits, carried as Writing·carried, canHeader, imageOf, writeNumber, writtenOf};
+ghost use Rattle.codec.specs.Writing.{subjectFits, shortFits, canHeader, writeNumber, writtenOf};
 ghost use Rattle.codec.specs.Code.{prefixed as Code·prefixed, putLong};
 use crate::Message;
 use crate::Subject;
@@ -59,26 +59,6 @@ fn long_fits(u: Subject, most: u8, d: Data) -> bool
     false
 }
 
-// Whether some readable frame carries the message.
-fn carried(m: Message) -> bool
-    ensures { λ r. ⌜ r ≡ Writing·carried m ⌝ }
-{
-    match m {
-        Message::Short {
-            dir,
-            address,
-            service,
-        } => short_fits(dir, address, service),
-        Message::Plain { about, body } => long_fits(about, 6, body),
-        Message::Fragment {
-            about,
-            number: _,
-            total: _,
-            body,
-        } => long_fits(about, 4, body),
-    }
-}
-
 // What stands behind a fragment's ID: its number, the total byte count, then the data.
 pub fn prefixed(number: u8, total: u8, d: Data) -> Data
     ensures { λ r. ⌜ r ≡ Code·prefixed number total d ⌝ }
@@ -120,33 +100,29 @@ fn short_image(dir: u8, address: u8, service: u8) -> [u8; 10]
     [dir * 128 + address, service * 32, 0, 0, 0, 0, 0, 0, 0, 0]
 }
 
-fn put_short(dir: u8, address: u8, service: u8, frame: &mut [u8])
-    requires { ⌜ (shortFits dir address service ≡ true) × (length (now frame) ≡ 10) ⌝ }
-    ensures { λ _. ⌜ now (frame .exit) ≡ padded 10 (canHeader dir address service 0) ⌝ }
+// Writes a short form into a record of ten bytes, if it fits.
+fn write_short(dir: u8, address: u8, service: u8, frame: &mut [u8]) -> u8
+    requires { ⌜ length (now frame) ≡ 10 ⌝ }
+    ensures { λ r. ⌜ (r ≡ cond (shortFits dir address service) 0 3)
+        × (now (frame .exit) ≡ cond (shortFits dir address service) (padded 10 (canHeader dir address service 0)) (now (frame .entry))) ⌝ }
 {
-    let bytes = short_image(dir, address, service);
-    bytes::copy(&bytes, frame);
+    if short_fits(dir, address, service) {
+        let bytes = short_image(dir, address, service);
+        bytes::copy(&bytes, frame);
+        return 0;
+    }
+    3
 }
 
-// Puts the record that carries a message.
-fn put(m: Message, frame: &mut [u8])
-    requires { ⌜ (Writing·carried m ≡ true) × (length (now frame) ≡ 10) ⌝ }
-    ensures { λ _. ⌜ now (frame .exit) ≡ imageOf m ⌝ }
+// Writes a long form, if its message fits.
+fn write_long(fits: bool, u: Subject, flag: u8, payload: Data, frame: &mut [u8]) -> u8
+    ensures { λ r. ⌜ (r ≡ cond fits 0 3) × (now (frame .exit) ≡ cond fits (putLong u flag payload (now (frame .entry))) (now (frame .entry))) ⌝ }
 {
-    match m {
-        Message::Short {
-            dir,
-            address,
-            service,
-        } => put_short(dir, address, service, frame),
-        Message::Plain { about, body } => put_long(about, 0, body, frame),
-        Message::Fragment {
-            about,
-            number,
-            total,
-            body,
-        } => put_long(about, 1, prefixed(number, total, body), frame),
+    if fits {
+        put_long(u, flag, payload, frame);
+        return 0;
     }
+    3
 }
 
 // Writes the record that carries a message, and answers 0. Refused are 1 (not ten bytes) and then 3 (no readable frame carries it), and the record stays.
@@ -156,9 +132,30 @@ pub fn write(m: Message, frame: &mut [u8]) -> u8
     if frame.len() != 10 {
         return 1;
     }
-    if carried(m) {
-        put(m, frame);
-        return 0;
+    match m {
+        Message::Short {
+            dir,
+            address,
+            service,
+        } => write_short(dir, address, service, frame),
+        Message::Plain { about, body } => write_long(
+            long_fits(about, 6, body),
+            about,
+            0,
+            body,
+            frame,
+        ),
+        Message::Fragment {
+            about,
+            number,
+            total,
+            body,
+        } => write_long(
+            long_fits(about, 4, body),
+            about,
+            1,
+            prefixed(number, total, body),
+            frame,
+        ),
     }
-    3
 }

@@ -1,8 +1,10 @@
 use Prim.Native.Nat.{_-_}
-use mathlib.Core.Path.{_≡_}
+use mathlib.Core.Path.{_≡_, _∙_}
 use native.Mathlib.Omega.{arith}
+use lib.ListN.{drop}
 use Rattle.laws.proofs.Tests.{tests}
 use Rattle.codec.specs.Code.{payloadData}
+use Rattle.codec.proofs.Images.{payload-part}
 use borrow.Author.Needs.{needs}
 use Rattle.codec.proofs.reading.payload_of.Statement.{statement}
 use Rattle.codec.proofs.reading.payload_of.Tie as tie
@@ -34,12 +36,31 @@ returns-3 c =
     let q : h .result .dlc - 2 ≡ 0 = omega arith in
     search (tests, c .no-data3 .ensures, ← h .ensures, q)
 
-payload-of-ten-requires : tie.Need-payload-of-ten-requires
-payload-of-ten-requires c κs = search needs
+cast-end : tie.Need-cast-end
+cast-end c = search needs
+
+add-end : tie.Need-add-end
+add-end c = search needs
+
+sub-data-from : tie.Need-sub-data-from
+sub-data-from c = search needs
+
+part-data-from-start : tie.Need-part-data-from-start
+part-data-from-start c = search needs
+
+part-data-from-end : tie.Need-part-data-from-end
+part-data-from-end c = search needs
+
+data-from-requires : tie.Need-data-from-requires
+data-from-requires c κs = search needs
 
 returns-4 : tie.Need-returns-4
 unfolding payloadData
-returns-4 c = search (tests, c .payload-of-ten .ensures, ← c .before .before .before .before .before .before .header-of .ensures)
+returns-4 c =
+    let k = c .before .before .before .before .before .before .before in
+    let h = k .header-of in
+    let part = payload-part (h .result .dlc) (drop 4 (k .before .before .before .args .frame .now)) (omega arith) in
+    search (tests, c .data-from .ensures ∙ part, ← h .ensures)
 
 pub payload-of-spec : {M : Type 1} → statement M
 payload-of-spec =
@@ -52,5 +73,10 @@ payload-of-spec =
     returns-2
     no-data-requires-3
     returns-3
-    payload-of-ten-requires
+    cast-end
+    add-end
+    sub-data-from
+    part-data-from-start
+    part-data-from-end
+    data-from-requires
     returns-4)
