@@ -1,11 +1,8 @@
 // Reading: a record to its message, or the number of the refusal.
 ghost use mathlib.Core.Path.{_≡_};
-ghost use mathlib.Core.Bool.{true, cond};
-ghost use Prim.Native.Nat.{_≤_};
-ghost use lib.Dec.{ltb};
-ghost use lib.ListN.{length, take, drop};
+ghost use mathlib.Core.Bool.{true};
 ghost use Rattle.laws.specs.Checks.{firstOf};
-ghost use Rattle.octets.specs.Data.{dataOf, tidy, bytesOf};
+ghost use Rattle.octets.specs.Data.{tidy, bytesOf};
 ghost use Rattle.codec.specs.Reading.{headerChecks, readChecks, subjectOf, longOf, readOf};
 ghost use Rattle.codec.specs.Code.{payloadData, unprefixed as Code·unprefixed};
 use crate::Answer;
