@@ -8,9 +8,13 @@
 kit=$(dirname "$(dirname "$(rt doc)")")
 tools=$kit/on/$(uname -m)/toolchain
 
+# Tests may run beside each other, and Debian's packages are installed by one at a time.
 fetch() {
-    apt-get update -qq
-    DEBIAN_FRONTEND=noninteractive apt-get install -y -qq --no-install-recommends "$@" >/dev/null
+    {
+        flock 9
+        apt-get update -qq
+        DEBIAN_FRONTEND=noninteractive apt-get install -y -qq --no-install-recommends "$@" >/dev/null
+    } 9>"${TMPDIR:-/tmp}/fetch.lock"
 }
 
 need() {
