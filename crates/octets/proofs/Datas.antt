@@ -12,8 +12,7 @@ use Rattle.laws.specs.Bytes.{zeros, padded}
 use Rattle.laws.proofs.Bytes.{are-zeros, getD-past, padded-take, byte-taken, zeros-at}
 use Rattle.laws.proofs.Tests.{split}
 use Rattle.octets.specs.declared.Data.{Data}
-use Rattle.octets.specs.Data.{dataOf}
-use Rattle.octets.specs.Data.{placesOf, bytesOf, tidy}
+use Rattle.octets.specs.Data.{dataOf, placesOf, bytesOf, tidy}
 
 -- at most six bytes, and the zeros behind them
 places : (l : List ℕ) → length l ≤ 6

@@ -1,4 +1,4 @@
--- Data: up to six bytes as a value.
+-- Data: up to six bytes as a value. More do not stand behind the ID of a frame (000, figures 3.13 and 3.14: a DLC of at most 8 counts byte 2 and the ID too).
 use Prim.Native.Nat.{ℕ}
 use mathlib.Core.Bool.{Bool, _&&_}
 use mathlib.Core.List.{List, [], _∷_}

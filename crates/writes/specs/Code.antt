@@ -33,7 +33,7 @@ pub record KeepReady (a : Attribute) (number total : ℕ) (b : Data) (work : ℕ
 abbrev pub JoinReady : Attribute → ℕ → ℕ → Data → ℕ → ℕ → Type 0
 JoinReady a number total b store work = KeepReady a number total b work × (endOf a ≤ store)
 
--- the store after a whole Write: it stays where the data would run past its end
+-- the store after a whole Write: it stays where the data would run past its end, or counts more bytes than it has places for
 unfoldable pub storedData : Attribute → Data → List ℕ → List ℕ
 storedData a b store = cond (leb (b .len) 6 && leb (a .offset + b .len) (length store)) (put store (a .offset) (bytesOf b)) store
 
@@ -41,15 +41,17 @@ storedData a b store = cond (leb (b .len) 6 && leb (a .offset + b .len) (length 
 abbrev pub joinedBytes : Attribute → ℕ → Data → List ℕ → List ℕ
 joinedBytes a number b work = take (4 * number) (drop (base (a .object) + 4) work) ++ bytesOf b
 
--- the attribute ends inside the store, and the message has its length; work and store are lengths
+-- the data has places for its bytes, the attribute ends inside the store, what was kept before is inside the work area, and the message has the
+-- attribute's length; work and store are lengths
 unfoldable pub joinedFits : Attribute → ℕ → Data → ℕ → ℕ → Bool
 joinedFits a number b work store = leb (b .len) 6 && leb (endOf a) store && joinFits (base (a .object)) number (b .len) work (a .len)
 
--- the store after a last fragment
+-- the store after a last fragment: it stays where that does not hold
 unfoldable pub storedJoined : Attribute → ℕ → Data → List ℕ → List ℕ → List ℕ
 storedJoined a number b work store = cond (joinedFits a number b (length work) (length store)) (put store (a .offset) (joinedBytes a number b work)) store
 
--- the work area after a fragment before the last
+-- the work area after a fragment before the last: it stays where the data has no places for its bytes or the area no room for them, or the next
+-- number is no byte
 unfoldable pub keptPiece : Attribute → ℕ → ℕ → Data → List ℕ → List ℕ
 keptPiece a number total b work =
     cond (leb (b .len) 6 && keepFits (base (a .object)) number (b .len) (length work))
