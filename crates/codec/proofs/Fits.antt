@@ -1,10 +1,10 @@
 -- The ranges of what a readable frame carries, in words.
 use Prim.Native.Nat.{ℕ, _≤_}
-use mathlib.Core.Path.{_≡_, sym, ap, _∙_}
-use mathlib.Core.Bool.{Bool, true, _&&_, and-eq-true-iff}
+use mathlib.Core.Path.{_≡_}
+use mathlib.Core.Bool.{true}
 use mathlib.Core.Logic.{_↔_}
-use lib.Dec.{leb}
 use borrow.Author.Tests.{leb-true, le-leb}
+use Rattle.laws.proofs.Tests.{halves}
 use Rattle.codec.specs.declared.Subject.{Subject}
 use Rattle.codec.specs.Writing.{subjectFits, shortFits}
 
@@ -20,10 +20,6 @@ pub record ShortFits (d a s : ℕ) : Type 0 where
   pub dir : d ≤ 1
   pub address : a ≤ 125
   pub service : s ≤ 7
-
--- the two parts of a test that holds
-halves : (a : Bool) {b : Bool} → a && b ≡ true → (a ≡ true) × (b ≡ true)
-halves a {b} e = and-eq-true-iff a b .0 e
 
 pub subject-fits : (u : Subject) → (subjectFits u ≡ true) ↔ SubjectFits u
 unfolding subjectFits

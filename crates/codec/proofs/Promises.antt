@@ -10,9 +10,9 @@ use lib.Dec.{eqb}
 use borrow.Author.Tests.{eqb-true, eq-eqb, ne-eqb, not-false}
 use denote.Ref.{now}
 use Rattle.laws.specs.Bytes.{Bytes, padded}
-use Rattle.laws.specs.Checks.{firstOf, holdsAt}
+use Rattle.laws.specs.Checks.{firstOf, holdsAt, FirstAt}
 use Rattle.laws.proofs.Tests.{split}
-use Rattle.laws.proofs.Checks.{FirstAt, given-exactly, none-holds}
+use Rattle.laws.proofs.Checks.{given-exactly, none-holds}
 use Rattle.octets.specs.declared.Data.{Data}
 use Rattle.octets.specs.Data.{bytesOf, tidy}
 use Rattle.codec.specs.declared.Answer.the-variants.{Got, Refused}

@@ -3,6 +3,7 @@ use Prim.Native.Nat.{ℕ}
 use mathlib.Core.Path.{_≡_, refl}
 use mathlib.Core.List.{List, [], _∷_, map, flatMap}
 use lib.ListN.{take}
+use Rattle.laws.specs.Bytes.{upFrom}
 use Rattle.laws.specs.Put.{put}
 use Rattle.laws.specs.Mixing.{run}
 use Rattle.octets.specs.Data.{dataOf, bytesOf}
@@ -14,7 +15,7 @@ use Rattle.table.specs.Table.{attributeOf, attributes, entryFits, wellFrom, wel
 use Rattle.join.specs.Work.{load, astray, joined, areaAfter}
 use Rattle.guest.specs.Step.{planOf, joinedAt, perform, errorFrame, successFrame, replyTo, next}
 use Rattle.demands.specs.Sample.{sampleTable, sample, fresh}
-use Rattle.demands.specs.Cases.{rising, cases, descriptors, outcome, expected, byTurns}
+use Rattle.demands.specs.Cases.{cases, descriptors, outcome, expected, byTurns}
 
 -- what computes here: `unfolding computing` unfolds all that its own line names
 unfoldable pub computing : Unit {0}
@@ -28,7 +29,7 @@ cases-hold = (refl, refl)
 
 -- "both tags written", object 2's at 1 and object 3's at 35; and nothing of either shows before its last fragment
 pub tags-by-turns :
-    (run (next sample) byTurns fresh .store ≡ put (put (fresh .store) 1 (rising 0x41 32)) 35 (rising 0x61 32))
+    (run (next sample) byTurns fresh .store ≡ put (put (fresh .store) 1 (upFrom 0x41 32)) 35 (upFrom 0x61 32))
     × (run (next sample) (take 14 byTurns) fresh .store ≡ fresh .store)
 unfolding computing byTurns
 tags-by-turns = (refl, refl)

@@ -12,9 +12,9 @@ use lib.ListN.{length, getD, take, drop}
 use lib.Seq.{take-at, drop-at}
 use lib.Dec.{eqb, ltb}
 use borrow.Author.Tests.{ltb-false, eqb-true, not-false}
-use Rattle.laws.specs.Checks.{firstOf, holdsAt}
+use Rattle.laws.specs.Checks.{firstOf, holdsAt, FirstAt}
 use Rattle.laws.specs.Put.{put}
-use Rattle.laws.proofs.Checks.{FirstAt, given-exactly, none-holds, first-most, holds-append}
+use Rattle.laws.proofs.Checks.{given-exactly, none-holds, first-most, holds-append}
 use Rattle.laws.proofs.Tests.{clash}
 use Rattle.laws.proofs.Put.{length-put, put-front, put-within, untouched}
 use Rattle.codec.specs.Fields.{headerOf}

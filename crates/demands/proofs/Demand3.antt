@@ -9,7 +9,7 @@ use mathlib.Core.Option.{Option, none, some}
 use mathlib.Core.List.{List, [], _∷_, _++_, reverse}
 use native.Mathlib.Omega.{arith}
 use lib.ListN.{length, getD, replicate, length-replicate, getD-replicate}
-use Rattle.laws.specs.Mixing.{own, ownAnswers, serially, count, run, trace}
+use Rattle.laws.specs.Mixing.{inputsOf, answersOf, serially, occurrences, run, trace}
 use Rattle.laws.proofs.Mixing.{mixed, in-series, in-turn, free-anywhere}
 use Rattle.join.specs.Work.{Piece, base, load}
 use Rattle.join.specs.History.{completes, Completes}
@@ -30,21 +30,21 @@ pub record Start (s : Setting) (x : Areas) : Type 0 where
 
 -- every object, once
 abbrev pub EachOnce : List ℕ → Type 0
-EachOnce os = (o : ℕ) → o < 32 → count o os ≡ 1
+EachOnce os = (o : ℕ) → o < 32 → occurrences o os ≡ 1
 
 -- Frames are records of any length and content. `object s r` is whose a frame is; the frames that checks 1 to 6 refuse are nobody's.
 pub record Demand3 (s : Setting) (x : Areas) : Type 0 where
   -- two orders that keep each object's own order: each object's frames get the same answers and response frames, and store and work area end the same
-  pub any-mix : (fs gs : List (List ℕ)) → ((o : ℕ) → own (object s) o fs ≡ own (object s) o gs)
-      → ((o : ℕ) → ownAnswers (object s) o (trace (next s) (answer s) fs x) ≡ ownAnswers (object s) o (trace (next s) (answer s) gs x))
+  pub any-mix : (fs gs : List (List ℕ)) → ((o : ℕ) → inputsOf (object s) o fs ≡ inputsOf (object s) o gs)
+      → ((o : ℕ) → answersOf (object s) o (trace (next s) (answer s) fs x) ≡ answersOf (object s) o (trace (next s) (answer s) gs x))
       × (run (next s) fs x ≡ run (next s) gs x)
   -- one such order serves the objects one after another, in whatever order of objects
   pub one-after-another : (os : List ℕ) → EachOnce os → (fs : List (List ℕ))
-      → ((o : ℕ) → ownAnswers (object s) o (trace (next s) (answer s) fs x) ≡ ownAnswers (object s) o (trace (next s) (answer s) (serially (object s) os fs) x))
+      → ((o : ℕ) → answersOf (object s) o (trace (next s) (answer s) fs x) ≡ answersOf (object s) o (trace (next s) (answer s) (serially (object s) os fs) x))
       × (run (next s) fs x ≡ run (next s) (serially (object s) os fs) x)
   -- frame by frame: r is answered as at its turn, behind the objects ps and the earlier frames of its own object
-  pub at-its-turn : (o : ℕ) (ps : List ℕ) → count o ps ≡ 0 → (before behind : List (List ℕ)) (r : List ℕ) → object s r ≡ some o
-      → answer s r (run (next s) before x) ≡ answer s r (run (next s) (serially (object s) ps (before ++ r ∷ behind) ++ own (object s) o before) x)
+  pub at-its-turn : (o : ℕ) (ps : List ℕ) → occurrences o ps ≡ 0 → (before behind : List (List ℕ)) (r : List ℕ) → object s r ≡ some o
+      → answer s r (run (next s) before x) ≡ answer s r (run (next s) (serially (object s) ps (before ++ r ∷ behind) ++ inputsOf (object s) o before) x)
   -- a frame of no object is answered the same anywhere
   pub nobodys : (before : List (List ℕ)) (r : List ℕ) → object s r ≡ none → answer s r (run (next s) before x) ≡ answer s r x
   -- the store shows whole writes only, a fragmented one at the frame that completes it: `shown` reads the frames and no work area

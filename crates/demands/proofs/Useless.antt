@@ -5,7 +5,7 @@ use mathlib.Core.Logic.{_≢_}
 use mathlib.Core.List.{List, [], _∷_, map, reverse}
 use native.Mathlib.Omega.{arith}
 use lib.ListN.{length, getD, take, drop, replicate}
-use Rattle.laws.specs.Bytes.{byteAt}
+use Rattle.laws.specs.Bytes.{byteAt, upFrom}
 use Rattle.laws.specs.Put.{put}
 use Rattle.laws.specs.Mixing.{run}
 use Rattle.codec.specs.Fields.{headerOf}
@@ -13,7 +13,7 @@ use Rattle.join.specs.History.{chain, gather, completes, message}
 use Rattle.guest.specs.Step.{answer, Areas, sent, settingOf, Outcome, stepWith, stepOf}
 use Rattle.guest.specs.History.{shown}
 use Rattle.demands.specs.Sample.{sample, fresh}
-use Rattle.demands.specs.Cases.{rising, p1, p1Answer, p1Store, tagFragment}
+use Rattle.demands.specs.Cases.{p1, p1Answer, p1Store, tagFragment}
 use Rattle.demands.proofs.Cases.{computing}
 
 -- what a device is given: a record, its address, its table, and the lent areas
@@ -106,6 +106,6 @@ module _ (next : List ℕ → Areas → Areas) (acknowledges : Acknowledges next
   unfolding computing chain gather completes message
   joins-only-the-first shows =
       let first = tagFragment 2 0x41 0 in
-      let tag = map (tagFragment 2 0x41) (rising 0 8) in
-      let same = sym (shows tag) ∙ later (rising 0 7) (next first fresh) ∙ shows (first ∷ []) in
+      let tag = map (tagFragment 2 0x41) (upFrom 0 8) in
+      let same = sym (shows tag) ∙ later (upFrom 0 7) (next first fresh) ∙ shows (first ∷ []) in
       let z : _≡_ {A = ℕ} 0x41 0 = ap (λ l. getD l 1 0) same in omega arith

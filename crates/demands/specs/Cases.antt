@@ -1,6 +1,7 @@
 -- The cases marked P of the scope page (01, "Sample device"), as one table.
 use Prim.Native.Nat.{ℕ, zero, suc, _+_, _*_}
 use mathlib.Core.List.{List, [], _∷_, _++_, map, flatMap}
+use Rattle.laws.specs.Bytes.{upFrom}
 use Rattle.laws.specs.Put.{put}
 use Rattle.laws.specs.Mixing.{run, trace}
 use Rattle.guest.specs.Step.{Areas, Reply, next, answer}
@@ -9,11 +10,6 @@ use Rattle.demands.specs.Sample.{sample, fresh}
 -- a record, byte by byte
 abbrev pub frame : ℕ → ℕ → ℕ → ℕ → ℕ → ℕ → ℕ → ℕ → ℕ → ℕ → List ℕ
 frame b0 b1 b2 b3 b4 b5 b6 b7 b8 b9 = b0 ∷ b1 ∷ b2 ∷ b3 ∷ b4 ∷ b5 ∷ b6 ∷ b7 ∷ b8 ∷ b9 ∷ []
-
--- numbers from b on, each one more than the one before
-abbrev pub rising : ℕ → ℕ → List ℕ
-rising b zero = []
-rising b (suc n) = b ∷ rising (b + 1) n
 
 -- a number and the frames put
 abbrev pub says : ℕ → List (List ℕ) → Reply
@@ -65,7 +61,7 @@ cases =
     ∷ quiet (frame 0x0A 0x84 0x03 0x0A 0x2C 0x01 0x00 0x00 0x00 0x00) 4
     ∷ quiet (frame 0x7E 0x84 0x03 0x0A 0x2C 0x01 0x00 0x00 0x00 0x00) 3
     -- "P5 DLC 0, DLC 1: 5", for each of the eight services
-    ∷ flatMap short (rising 0 8)
+    ∷ flatMap short (upFrom 0 8)
     -- "P6 Write object 2, ID 18: 10"
     ++ error (frame 0x09 0x83 0x02 0x12 0x01 0x00 0x00 0x00 0x00 0x00) 10 (frame 0x89 0x82 0x82 0x12 0x00 0x00 0x00 0x00 0x00 0x00)
     -- "P7 ID 19: 9"
@@ -109,4 +105,4 @@ tagFragment object b n =
 
 -- "Fragments 0 to 7 to object 2 and to object 3 by turns"
 unfoldable pub byTurns : List (List ℕ)
-byTurns = flatMap (λ n. tagFragment 2 0x41 n ∷ tagFragment 3 0x61 n ∷ []) (rising 0 8)
+byTurns = flatMap (λ n. tagFragment 2 0x41 n ∷ tagFragment 3 0x61 n ∷ []) (upFrom 0 8)

@@ -7,12 +7,12 @@ use mathlib.Core.Logic.{_↔_}
 use native.Mathlib.Omega.{arith}
 use lib.Dec.{ltb, leb, eqb}
 use borrow.Author.Tests.{ltb-true, ltb-false, leb-true, eqb-true, eqb-false, eq-eqb, ne-eqb}
-use Rattle.laws.specs.Checks.{Check, firstOf, holdsAt, risesFrom, mostIs}
+use Rattle.laws.specs.Checks.{Check, firstOf, holdsAt, FirstAt, risesFrom, mostIs}
 use Rattle.laws.proofs.Tests.{split, clash}
 
 -- what a table that rises says of its first row and of the rest
-rising : (k : ℕ) (c : Check) (cs : List Check) → risesFrom k (c ∷ cs) ≡ true → (k < c .1) × (risesFrom (c .1) cs ≡ true)
-rising k c cs r =
+first-row : (k : ℕ) (c : Check) (cs : List Check) → risesFrom k (c ∷ cs) ≡ true → (k < c .1) × (risesFrom (c .1) cs ≡ true)
+first-row k c cs r =
     let a = and-eq-true-iff (ltb k (c .1)) (risesFrom (c .1) cs) .0 r in
     (ltb-true k (c .1) (a .0), a .1)
 
@@ -30,26 +30,22 @@ none-below : (k : ℕ) (cs : List Check) → risesFrom k cs ≡ true → (n : �
 unfolding holdsAt
 none-below k [] r n h = refl
 none-below k (c ∷ cs) r n h =
-    let a = rising k c cs r in
+    let a = first-row k c cs r in
     past c cs n (λ e. omega arith) ∙ none-below (c .1) cs (a .1) n (omega arith)
 
 above : (k : ℕ) (cs : List Check) → risesFrom k cs ≡ true → 0 < firstOf cs → k < firstOf cs
 above k [] r h = absurd (omega (arith, h))
 above k (c ∷ cs) r h =
-    let a = rising k c cs r in
+    let a = first-row k c cs r in
     split (c .0)
     (λ t. simp t (a .0))
     (λ f. let i : c .1 < firstOf cs = above (c .1) cs (a .1) (simp f at h) in simp f (omega arith))
-
--- the check of number n is the first of the table that holds
-abbrev pub FirstAt : List Check → ℕ → Type 0
-FirstAt cs n = (holdsAt cs n ≡ true) × ((m : ℕ) → m < n → holdsAt cs m ≡ false)
 
 -- the first row answers, or a later one does
 given : (k : ℕ) (cs : List Check) → risesFrom k cs ≡ true → (n : ℕ) → 0 < n → firstOf cs ≡ n → FirstAt cs n
 given k [] r n p e = absurd (omega arith)
 given k (c ∷ cs) r n p e =
-    let a = rising k c cs r in
+    let a = first-row k c cs r in
     split (c .0)
     (λ t.
     let q : c .1 ≡ n = simp t at e in
@@ -69,7 +65,7 @@ taken : (k : ℕ) (cs : List Check) → risesFrom k cs ≡ true → (n : ℕ) �
 unfolding holdsAt
 taken k [] r n i = clash (i .0) refl
 taken k (c ∷ cs) r n i =
-    let a = rising k c cs r in
+    let a = first-row k c cs r in
     split (eqb (c .1) n)
     (λ s. let q = eqb-true (c .1) n s in simp (sym (here c cs n q) ∙ i .0) q)
     (λ s.
@@ -95,7 +91,7 @@ silent : (k : ℕ) (cs : List Check) → risesFrom k cs ≡ true → firstOf cs 
 unfolding holdsAt
 silent k [] r e n = refl
 silent k (c ∷ cs) r e n =
-    let a = rising k c cs r in
+    let a = first-row k c cs r in
     split (c .0)
     (λ t. let q : c .1 ≡ 0 = simp t at e in absurd (omega arith))
     (λ f. split (eqb (c .1) n)
@@ -116,7 +112,7 @@ pub first-append : (k : ℕ) (cs ds : List Check) → risesFrom k cs ≡ true
     → firstOf (cs ++ ds) ≡ cond (eqb (firstOf cs) 0) (firstOf ds) (firstOf cs)
 first-append k [] ds r = refl
 first-append k (c ∷ cs) ds r =
-    let a = rising k c cs r in
+    let a = first-row k c cs r in
     split (c .0)
     (λ t. simp (t, ne-eqb (c .1) 0 (omega arith)))
     (λ f. simp f (first-append (c .1) cs ds (a .1)))

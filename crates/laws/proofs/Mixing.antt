@@ -8,7 +8,7 @@ use mathlib.Core.List.{List, [], _∷_, _++_, append-nil}
 use native.Mathlib.Omega.{arith}
 use lib.Dec.{eqb, ltb}
 use borrow.Author.Tests.{eqb-true, eqb-false, eq-eqb, ne-eqb, ltb-true, ltb-false}
-use Rattle.laws.specs.Mixing.{those, isOf, own, ownAnswers, serially, count, run, trace}
+use Rattle.laws.specs.Mixing.{those, isOf, inputsOf, answersOf, serially, occurrences, run, trace}
 use Rattle.laws.proofs.Tests.{split, clash}
 
 module _ {X : Type 0} where
@@ -45,7 +45,7 @@ module _ {F S A : Type 0} {next : F → S → S} {answer : F → S → A} {owner
   run-good (f ∷ fs) s g = run-good fs (next f s) (L .good-next f s g)
 
   -- a run leaves o what the run of o's own inputs leaves it
-  run-own : (o : ℕ) (fs : List F) (s t : S) → Good s → Good t → Same o s t → Same o (run next fs s) (run next (own owner o fs) t)
+  run-own : (o : ℕ) (fs : List F) (s t : S) → Good s → Good t → Same o s t → Same o (run next fs s) (run next (inputsOf owner o fs) t)
   run-own o [] s t gs gt e = e
   run-own o (f ∷ fs) s t gs gt e =
       split (isOf o (owner f))
@@ -54,7 +54,7 @@ module _ {F S A : Type 0} {next : F → S → S} {answer : F → S → A} {owner
 
   -- and o's inputs get the answers that they get alone
   trace-own : (o : ℕ) (fs : List F) (s t : S) → Good s → Good t → Same o s t
-      → ownAnswers owner o (trace next answer fs s) ≡ trace next answer (own owner o fs) t
+      → answersOf owner o (trace next answer fs s) ≡ trace next answer (inputsOf owner o fs) t
   trace-own o [] s t gs gt e = refl
   trace-own o (f ∷ fs) s t gs gt e =
       split (isOf o (owner f))
@@ -65,8 +65,8 @@ module _ {F S A : Type 0} {next : F → S → S} {answer : F → S → A} {owner
       (λ q. simp q (trace-own o fs (next f s) t (L .good-next f s gs) gt (L .same-trans o (next f s) s t (L .others o f s (is-other o (owner f) q) gs) e)))
 
   -- two orders of the inputs that keep each owner's own order: the same answers to each owner's inputs, and the same state at the end
-  pub mixed : (fs gs : List F) (s : S) → Good s → ((o : ℕ) → own owner o fs ≡ own owner o gs)
-      → ((o : ℕ) → ownAnswers owner o (trace next answer fs s) ≡ ownAnswers owner o (trace next answer gs s))
+  pub mixed : (fs gs : List F) (s : S) → Good s → ((o : ℕ) → inputsOf owner o fs ≡ inputsOf owner o gs)
+      → ((o : ℕ) → answersOf owner o (trace next answer fs s) ≡ answersOf owner o (trace next answer gs s))
       × (run next fs s ≡ run next gs s)
   mixed fs gs s g h = (
     λ o. trace-own o fs s s g g (L .same-refl o s)
@@ -79,11 +79,11 @@ module _ {F S A : Type 0} {next : F → S → S} {answer : F → S → A} {owner
         (L .same-sym o _ _ (run-own o gs s s g g (L .same-refl o s)))),
   )
 
-  -- one input: its answer is the one that it gets after the earlier inputs of its own owner alone
+  -- one input: its answer is the one that it gets after the earlier inputs of its inputsOf owner alone
   pub alone : (o : ℕ) (before : List F) (f : F) (s : S) → Good s → owner f ≡ some o
-      → answer f (run next before s) ≡ answer f (run next (own owner o before) s)
+      → answer f (run next before s) ≡ answer f (run next (inputsOf owner o before) s)
   alone o before f s g m =
-      L .own-answer o f _ _ m (run-good before s g) (run-good (own owner o before) s g) (run-own o before s s g g (L .same-refl o s))
+      L .own-answer o f _ _ m (run-good before s g) (run-good (inputsOf owner o before) s g) (run-own o before s s g g (L .same-refl o s))
 
   -- an input of no owner: its answer is the one that it gets first
   pub free-anywhere : (before : List F) (f : F) (s : S) → Good s → owner f ≡ none → answer f (run next before s) ≡ answer f s
@@ -92,7 +92,7 @@ module _ {F S A : Type 0} {next : F → S → S} {answer : F → S → A} {owner
 -- ---- the owners one after another
 
 module _ {F : Type 0} (owner : F → Option ℕ) where
-  own-own : (o p : ℕ) (fs : List F) → own owner o (own owner p fs) ≡ cond (eqb p o) (own owner o fs) []
+  own-own : (o p : ℕ) (fs : List F) → inputsOf owner o (inputsOf owner p fs) ≡ cond (eqb p o) (inputsOf owner o fs) []
   own-own o p [] = split (eqb p o) (λ t. simp t) (λ t. simp t)
   own-own o p (f ∷ fs) =
       split (isOf p (owner f))
@@ -109,60 +109,60 @@ module _ {F : Type 0} (owner : F → Option ℕ) where
       (λ t. simp (q, t) (own-own o p fs ∙ simp t)))
 
   -- an owner that does not stand in the list has no input in the series, and one that stands there once has all of its own
-  own-absent : (o : ℕ) (os : List ℕ) (fs : List F) → count o os ≡ 0 → own owner o (serially owner os fs) ≡ []
+  own-absent : (o : ℕ) (os : List ℕ) (fs : List F) → occurrences o os ≡ 0 → inputsOf owner o (serially owner os fs) ≡ []
   own-absent o [] fs c = refl
   own-absent o (p ∷ os) fs c =
       split (eqb p o)
-      (λ t. let z : suc (count o os) ≡ 0 = simp t at c in absurd (omega arith))
+      (λ t. let z : suc (occurrences o os) ≡ 0 = simp t at c in absurd (omega arith))
       (λ t.
-      those-append (λ f. isOf o (owner f)) (own owner p fs) (serially owner os fs)
+      those-append (λ f. isOf o (owner f)) (inputsOf owner p fs) (serially owner os fs)
       ∙ rw (own-own o p fs) (simp t (own-absent o os fs (simp t at c))))
 
-  own-once : (o : ℕ) (os : List ℕ) (fs : List F) → count o os ≡ 1 → own owner o (serially owner os fs) ≡ own owner o fs
+  own-once : (o : ℕ) (os : List ℕ) (fs : List F) → occurrences o os ≡ 1 → inputsOf owner o (serially owner os fs) ≡ inputsOf owner o fs
   own-once o [] fs c = absurd (omega arith)
   own-once o (p ∷ os) fs c =
-      those-append (λ f. isOf o (owner f)) (own owner p fs) (serially owner os fs)
+      those-append (λ f. isOf o (owner f)) (inputsOf owner p fs) (serially owner os fs)
       ∙ split (eqb p o)
       (λ t.
-      let z : suc (count o os) ≡ 1 = simp t at c in
+      let z : suc (occurrences o os) ≡ 1 = simp t at c in
       rw (own-own o p fs, own-absent o os fs (omega arith)) (simp t (append-nil _)))
       (λ t. rw (own-own o p fs) (simp t (own-once o os fs (simp t at c))))
 
   -- an owner of no input has none
-  own-none : (o : ℕ) (fs : List F) → ((f : F) → owner f ≢ some o) → own owner o fs ≡ []
+  own-none : (o : ℕ) (fs : List F) → ((f : F) → owner f ≢ some o) → inputsOf owner o fs ≡ []
   own-none o [] h = refl
   own-none o (f ∷ fs) h =
       split (isOf o (owner f)) (λ q. absurd (h f (is-of o (owner f) q))) (λ q. simp q (own-none o fs h))
 
   -- so a series of all owners below n, each once, keeps each owner's own order
   pub own-serially : (n : ℕ) → ((f : F) (o : ℕ) → owner f ≡ some o → o < n)
-      → (os : List ℕ) → ((o : ℕ) → o < n → count o os ≡ 1)
-      → (o : ℕ) (fs : List F) → own owner o fs ≡ own owner o (serially owner os fs)
+      → (os : List ℕ) → ((o : ℕ) → o < n → occurrences o os ≡ 1)
+      → (o : ℕ) (fs : List F) → inputsOf owner o fs ≡ inputsOf owner o (serially owner os fs)
   own-serially n bound os each o fs =
       split (ltb o n)
       (λ t. sym (own-once o os fs (each o (ltb-true o n t))))
       (λ t.
-      let none : (gs : List F) → own owner o gs ≡ [] = λ gs. own-none o gs (λ f e. let k : o < n = bound f o e in absurd (omega (arith, ltb-false o n t))) in
+      let none : (gs : List F) → inputsOf owner o gs ≡ [] = λ gs. own-none o gs (λ f e. let k : o < n = bound f o e in absurd (omega (arith, ltb-false o n t))) in
       none fs ∙ sym (none (serially owner os fs)))
 
 module _ {F S A : Type 0} {next : F → S → S} {answer : F → S → A} {owner : F → Option ℕ} {Good : S → Type 0} {Same : ℕ → S → S → Type 0}
     (L : Local next answer owner Good Same) (n : ℕ) (bound : (f : F) (o : ℕ) → owner f ≡ some o → o < n)
-    (os : List ℕ) (each : (o : ℕ) → o < n → count o os ≡ 1) where
+    (os : List ℕ) (each : (o : ℕ) → o < n → occurrences o os ≡ 1) where
   -- any mix, against the owners one after another, in any order of owners
   pub in-series : (fs : List F) (s : S) → Good s
-      → ((o : ℕ) → ownAnswers owner o (trace next answer fs s) ≡ ownAnswers owner o (trace next answer (serially owner os fs) s))
+      → ((o : ℕ) → answersOf owner o (trace next answer fs s) ≡ answersOf owner o (trace next answer (serially owner os fs) s))
       × (run next fs s ≡ run next (serially owner os fs) s)
   in-series fs s g = mixed L fs (serially owner os fs) s g (λ o. own-serially owner n bound os each o fs)
 
 -- one input at its turn: behind the inputs of the owners before its own, and the earlier ones of its own
 module _ {F S A : Type 0} {next : F → S → S} {answer : F → S → A} {owner : F → Option ℕ} {Good : S → Type 0} {Same : ℕ → S → S → Type 0}
     (L : Local next answer owner Good Same) where
-  pub in-turn : (o : ℕ) (ps : List ℕ) → count o ps ≡ 0 → (before behind : List F) (f : F) (s : S) → Good s → owner f ≡ some o
-      → answer f (run next before s) ≡ answer f (run next (serially owner ps (before ++ f ∷ behind) ++ own owner o before) s)
+  pub in-turn : (o : ℕ) (ps : List ℕ) → occurrences o ps ≡ 0 → (before behind : List F) (f : F) (s : S) → Good s → owner f ≡ some o
+      → answer f (run next before s) ≡ answer f (run next (serially owner ps (before ++ f ∷ behind) ++ inputsOf owner o before) s)
   in-turn o ps absent before behind f s g m =
-      let earlier : List F = serially owner ps (before ++ f ∷ behind) ++ own owner o before in
-      let same : own owner o earlier ≡ own owner o before =
-      those-append (λ x. isOf o (owner x)) (serially owner ps (before ++ f ∷ behind)) (own owner o before)
+      let earlier : List F = serially owner ps (before ++ f ∷ behind) ++ inputsOf owner o before in
+      let same : inputsOf owner o earlier ≡ inputsOf owner o before =
+      those-append (λ x. isOf o (owner x)) (serially owner ps (before ++ f ∷ behind)) (inputsOf owner o before)
       ∙ rw (own-absent owner o ps (before ++ f ∷ behind) absent, own-own owner o o before) (simp (eq-eqb o o refl)) in
       alone L o before f s g m
       ∙ ap (λ (l : List F). answer f (run next l s)) (sym same)

@@ -1,7 +1,7 @@
 -- From facts to tests and back.
 use Prim.Native.Nat.{ℕ}
 use mathlib.Core.Path.{_≡_, refl, sym, _∙_}
-use mathlib.Core.Bool.{Bool, true, false, _&&_, true≢false}
+use mathlib.Core.Bool.{Bool, true, false, _&&_, true≢false, and-eq-true-iff}
 use borrow.Author.Tests.{eq-eqb, ne-eqb, lt-ltb, le-ltb, lt-leb, le-leb}
 
 -- the value of a test, from the fact that it tests
@@ -20,3 +20,7 @@ clash t f = absurd (true≢false (sym t ∙ f))
 pub not-both : (a b : Bool) → a && b ≡ false → a ≡ true → b ≡ false
 not-both true b e t = e
 not-both false b e t = clash t refl
+
+-- the two parts of a conjunction that holds
+pub halves : (a : Bool) {b : Bool} → a && b ≡ true → (a ≡ true) × (b ≡ true)
+halves a {b} e = and-eq-true-iff a b .0 e

@@ -1,5 +1,6 @@
 -- An ordered table of checks: each row is a test and the number that answers where it is the first to hold.
-use Prim.Native.Nat.{ℕ}
+use Prim.Native.Nat.{ℕ, _<_}
+use mathlib.Core.Path.{_≡_}
 use mathlib.Core.Bool.{Bool, true, false, cond, _&&_, _||_}
 use mathlib.Core.List.{List, [], _∷_}
 use lib.Dec.{ltb, leb, eqb}
@@ -16,6 +17,10 @@ firstOf (c ∷ cs) = cond (c .0) (c .1) (firstOf cs)
 unfoldable pub holdsAt : List Check → ℕ → Bool
 holdsAt [] n = false
 holdsAt (c ∷ cs) n = cond (eqb (c .1) n) (c .0) (holdsAt cs n)
+
+-- the check of number n is the first of the table that holds
+abbrev pub FirstAt : List Check → ℕ → Type 0
+FirstAt cs n = (holdsAt cs n ≡ true) × ((m : ℕ) → m < n → holdsAt cs m ≡ false)
 
 -- the rows' numbers rise strictly, and are above k
 abbrev pub risesFrom : ℕ → List Check → Bool

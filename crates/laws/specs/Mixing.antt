@@ -19,22 +19,22 @@ isOf o (some k) = eqb k o
 
 module _ {F : Type 0} (owner : F → Option ℕ) where
   -- the inputs of one owner, in their order
-  abbrev pub own : ℕ → List F → List F
-  own o fs = those (λ f. isOf o (owner f)) fs
+  abbrev pub inputsOf : ℕ → List F → List F
+  inputsOf o fs = those (λ f. isOf o (owner f)) fs
 
   -- inputs with their answers: those of one owner
-  abbrev pub ownAnswers : {A : Type 0} → ℕ → List (F × A) → List (F × A)
-  ownAnswers o ts = those (λ t. isOf o (owner (t .0))) ts
+  abbrev pub answersOf : {A : Type 0} → ℕ → List (F × A) → List (F × A)
+  answersOf o ts = those (λ t. isOf o (owner (t .0))) ts
 
   -- the owners one after another, in the order of a list
   abbrev pub serially : List ℕ → List F → List F
   serially [] fs = []
-  serially (o ∷ os) fs = own o fs ++ serially os fs
+  serially (o ∷ os) fs = inputsOf o fs ++ serially os fs
 
 -- how often a number stands in a list
-abbrev pub count : ℕ → List ℕ → ℕ
-count o [] = 0
-count o (p ∷ os) = cond (eqb p o) (suc (count o os)) (count o os)
+abbrev pub occurrences : ℕ → List ℕ → ℕ
+occurrences o [] = 0
+occurrences o (p ∷ os) = cond (eqb p o) (suc (occurrences o os)) (occurrences o os)
 
 module _ {F S : Type 0} (next : F → S → S) where
   -- the state after the inputs, the first of them first

@@ -10,9 +10,9 @@ use lib.ListN.{length}
 use lib.Dec.{eqb}
 use borrow.Author.Tests.{eqb-true, eq-eqb, ne-eqb, le-ltb, not-false}
 use Rattle.laws.specs.Bytes.{Bytes}
-use Rattle.laws.specs.Checks.{Check, firstOf, holdsAt}
+use Rattle.laws.specs.Checks.{Check, firstOf, holdsAt, FirstAt}
 use Rattle.laws.proofs.Tests.{split, clash}
-use Rattle.laws.proofs.Checks.{FirstAt, given-exactly, none-holds}
+use Rattle.laws.proofs.Checks.{given-exactly, none-holds}
 use Rattle.octets.specs.Data.{dataOf}
 use Rattle.codec.specs.declared.Answer.{Answer}
 use Rattle.codec.specs.declared.Answer.the-variants.{Got, Refused}

@@ -1,18 +1,14 @@
 -- Descriptor sizes against 001's own table and examples, computed; and a law of the size bits.
-use Prim.Native.Nat.{ℕ, zero, suc, _+_, _<_}
+use Prim.Native.Nat.{ℕ, zero, suc, _<_}
 use mathlib.Core.Path.{_≡_, refl}
 use mathlib.Core.List.{List, [], _∷_, _++_, map}
 use native.Mathlib.Omega.{arith}
 use lib.ListN.{replicate}
+use Rattle.laws.specs.Bytes.{upFrom}
 use Rattle.table.specs.Descriptor.{sizeBytes, sizeBy, descriptorSize}
 
--- n numbers from k on
-abbrev from : ℕ → ℕ → List ℕ
-from zero k = []
-from (suc n) k = k ∷ from n (k + 1)
-
 -- 001, 5.2: a Boolean of undefined size, for N from 1 to 32: 1 byte up to 8 points, 2 up to 16, 4 up to 32
-pub decoding-table : map descriptorSize (from 32 0x0100) ≡ replicate 8 1 ++ replicate 8 2 ++ replicate 16 4
+pub decoding-table : map descriptorSize (upFrom 0x0100 32) ≡ replicate 8 1 ++ replicate 8 2 ++ replicate 16 4
 unfolding descriptorSize sizeBy
 decoding-table = refl
 

@@ -8,15 +8,12 @@ use native.Mathlib.Omega.{arith}
 use lib.ListN.{length, getD, take, drop, length-take, length-drop}
 use lib.Dec.{eqb, leb, ltb}
 use borrow.Author.Tests.{leb-true, eqb-true, eqb-false, ltb-true, lt-ltb, le-ltb, le-leb, eq-eqb}
-use Rattle.laws.proofs.Tests.{split}
+use Rattle.laws.proofs.Tests.{split, halves}
 use Rattle.table.specs.declared.Attribute.{Attribute}
 use Rattle.table.specs.declared.Found.{Found}
 use Rattle.table.specs.declared.Found.the-variants.{At, Nothing}
 use Rattle.table.specs.Descriptor.{descriptorSize}
 use Rattle.table.specs.Table.{attributes, network, entryFits, pairOf, endOf, wellFrom, wellFormed, WellFormed, findIn, find, partOf, ownerIn}
-
-halves : (a : Bool) {b : Bool} → a && b ≡ true → (a ≡ true) × (b ≡ true)
-halves a {b} e = and-eq-true-iff a b .0 e
 
 -- a record of the table by itself, in words
 pub record EntryFits (a : Attribute) : Type 0 where
