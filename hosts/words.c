@@ -39,7 +39,7 @@ static const char *const refusals[] = {
     [SDS_BAD_SERVICE] = "the short form (DLC 0), DLC 1, or a service of 0 to 3",
     [SDS_NOT_REQUEST] = "not a Request",
     [SDS_ACTION_OR_EVENT] = "Action or Event",
-    [SDS_BAD_FORM] = "a Read with the fragment flag or with data; a fragment of a Write without number and total",
+    [SDS_BAD_FORM] = "a Read with the fragment flag or with data; a fragment of a Write too short for number and total",
     [SDS_NO_ATTRIBUTE] = "no such object and attribute",
     [SDS_NO_ACCESS] = "the attribute may not be read, or not be written",
     [SDS_OTHER_LENGTH] = "a Write of another length than the attribute's",
@@ -52,7 +52,7 @@ static const char *const refusals[] = {
 static const char *const unread[] = {
     [SDS_BAD_FRAME] = bad_frame,
     [SDS_BAD_SERVICE] = "DLC 1, or DLC 2 up with a service of 0 to 3",
-    [SDS_BAD_FORM] = "the fragment flag with DLC 2 or 3, without number and total",
+    [SDS_BAD_FORM] = "the fragment flag with DLC 2 or 3, too short for number and total",
 };
 
 int words_bytes(FILE *to, const uint8_t *bytes, size_t count)

@@ -73,7 +73,7 @@ enum sds_number {
     SDS_BAD_SERVICE = 5,        /* DLC 0, which is the short form, or 1, which is none; or a service of 0 to 3 */
     SDS_NOT_REQUEST = 6,        /* not a Request */
     SDS_ACTION_OR_EVENT = 7,    /* Action or Event */
-    SDS_BAD_FORM = 8,           /* a Read with the fragment flag or with data; a fragment of a Write without number and total */
+    SDS_BAD_FORM = 8,           /* a Read with the fragment flag or with data; a fragment of a Write too short for number and total */
     SDS_NO_ATTRIBUTE = 9,       /* no such object and attribute */
     SDS_NO_ACCESS = 10,         /* the attribute may not be read, or not be written */
     SDS_OTHER_LENGTH = 11,      /* a Write of another length than the attribute's */
@@ -124,7 +124,7 @@ struct sds_attribute {
 };
 enum sds_access { SDS_ACCESS_READ = 1, SDS_ACCESS_WRITE = 2, SDS_ACCESS_NETWORK = 4 };
 
-/* What sds_step says of a table and of a store of this length, for whichever frame: 0, 1 (their lengths) or 2. */
+/* What sds_step says of a table and of a store of this length, for whichever frame: 0 (well), 1 (their lengths) or 2 (not well formed). */
 uint32_t sds_table_check(const uint8_t *table, uint64_t table_len, uint64_t store_len);
 
 /* The bytes that a data descriptor of the component model describes; 0 where it is refused, as is every number over 65,535. */

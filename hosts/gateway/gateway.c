@@ -3,6 +3,9 @@
  *
  * A frame comes in, the core makes the answers, what it altered in the store goes to disk, and only then the answers go out: what is
  * acknowledged is on disk. The work area is not saved: a half-built message does not survive a restart, and never shows (01).
+ *
+ * Frames that the kernel drops because the socket's queue is full are not noticed here. If of two messages to one attribute the one loses its
+ * tail and the other its head, what is left can be joined.
  */
 #include <err.h>
 #include <errno.h>
