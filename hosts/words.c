@@ -7,34 +7,53 @@ static const char *const short_services[8] = {
     "Write OFF State",     "Write ON State",     "Write OFF State ACK",     "Write ON State ACK",
 };
 
-/* 000, figure 3.6, from service 4 on: the codec reads no other; and what the ID of such a message names */
-static const char *const long_services[4] = {"Write", "Read", "Action", "Event"};
-static const char *const long_ids[4] = {"attribute", "attribute", "action", "event"};
-
-static const char *const responses[4] = {[REQUEST] = "Request", [SUCCESSFUL] = "Successful", [ERROR] = "Error", [WAIT] = "Wait"};
-
-/* sds.h, "Numbers of a reply" */
-static const char *const refusals[] = {
-    [1] = "a length, or the own address, is out of its range",
-    [2] = "the table is not well formed",
-    [3] = "RTR, a DLC over 8, or address 126 or 127",
-    [4] = "sent by a guest, or to another address",
-    [5] = "the short form (DLC 0 or 1), or a service of 0 to 3",
-    [6] = "not a Request",
-    [7] = "Action or Event",
-    [8] = "a Read with the fragment flag or with data; a fragment of a Write without number and total",
-    [9] = "no such object and attribute",
-    [10] = "the attribute may not be read, or not be written",
-    [11] = "a Write of another length than the attribute's",
-    [12] = "a fragment that begins at or behind the total, or of another length than its place asks for",
-    [13] = "a fragment number above 63",
-    [14] = "a fragment that does not follow the one before",
+/* 000, figure 3.6, as far as the codec reads it; and what the ID of such a message names */
+static const char *const long_services[] = {
+    [SDS_SERVICE_WRITE] = "Write",
+    [SDS_SERVICE_READ] = "Read",
+    [SDS_SERVICE_ACTION] = "Action",
+    [SDS_SERVICE_EVENT] = "Event",
+};
+static const char *const long_ids[] = {
+    [SDS_SERVICE_WRITE] = "attribute",
+    [SDS_SERVICE_READ] = "attribute",
+    [SDS_SERVICE_ACTION] = "action",
+    [SDS_SERVICE_EVENT] = "event",
 };
 
-uint32_t words_read(const uint8_t record[SDS_RECORD], struct message *message)
-{
-    return sds_read(record, SDS_RECORD, (uint8_t *)message, sizeof *message);
-}
+static const char *const responses[] = {
+    [SDS_REQUEST] = "Request",
+    [SDS_SUCCESSFUL] = "Successful",
+    [SDS_ERROR] = "Error",
+    [SDS_WAIT] = "Wait",
+};
+
+static const char bad_frame[] = "RTR, a DLC over 8, or address 126 or 127";
+
+/* why a device refuses: sds.h, enum sds_number */
+static const char *const refusals[] = {
+    [SDS_BAD_LENGTH] = "a length, or the own address, is out of its range",
+    [SDS_BAD_TABLE] = "the table is not well formed",
+    [SDS_BAD_FRAME] = bad_frame,
+    [SDS_NOT_ADDRESSED] = "sent by a guest, or to another address",
+    [SDS_BAD_SERVICE] = "the short form (DLC 0), DLC 1, or a service of 0 to 3",
+    [SDS_NOT_REQUEST] = "not a Request",
+    [SDS_ACTION_OR_EVENT] = "Action or Event",
+    [SDS_BAD_FORM] = "a Read with the fragment flag or with data; a fragment of a Write too short for number and total",
+    [SDS_NO_ATTRIBUTE] = "no such object and attribute",
+    [SDS_NO_ACCESS] = "the attribute may not be read, or not be written",
+    [SDS_OTHER_LENGTH] = "a Write of another length than the attribute's",
+    [SDS_BAD_FRAGMENT] = "a fragment that begins at or behind the total, or of another length than its place asks for",
+    [SDS_BAD_NUMBER] = "a fragment number above 63",
+    [SDS_OUT_OF_ORDER] = "a fragment that does not follow the one before",
+};
+
+/* why a record of the right length is not read, by whoever it is: sds.h, sds_read */
+static const char *const unread[] = {
+    [SDS_BAD_FRAME] = bad_frame,
+    [SDS_BAD_SERVICE] = "DLC 1, or DLC 2 up with a service of 0 to 3",
+    [SDS_BAD_FORM] = "the fragment flag with DLC 2 or 3, too short for number and total",
+};
 
 int words_bytes(FILE *to, const uint8_t *bytes, size_t count)
 {
@@ -46,34 +65,33 @@ int words_bytes(FILE *to, const uint8_t *bytes, size_t count)
 
 int words_number(FILE *to, uint32_t number)
 {
-    return number == 0 ? fprintf(to, "served") : fprintf(to, "refused %u: %s", number, refusals[number]);
+    return number == SDS_SERVED ? fprintf(to, "served") : fprintf(to, "refused %u: %s", number, refusals[number]);
 }
 
 static int unreadable(FILE *to, const uint8_t record[SDS_RECORD], uint32_t number)
 {
     int width = fprintf(to, "unreadable");
     width += words_bytes(to, record, SDS_RECORD);
-    return width + fprintf(to, "  %u: %s", number, refusals[number]);
+    return width + fprintf(to, "  %u: %s", number, unread[number]);
 }
 
 int words_record(FILE *to, const uint8_t record[SDS_RECORD])
 {
-    struct message m;
-    uint32_t number = words_read(record, &m);
-    if (number != 0)
+    struct sds_message m;
+    uint32_t number = sds_message_read(record, &m);
+    if (number != SDS_SERVED)
         return unreadable(to, record, number);
 
     int width = fprintf(to, "%-4s %-3u  ", m.from_guest ? "from" : "to", m.address);
-    if (m.kind == SHORT_FORM)
+    if (m.kind == SDS_KIND_SHORT)
         return width + fprintf(to, "short   %s", short_services[m.service]);
 
-    const char *service = long_services[m.service - 4], *id = long_ids[m.service - 4];
-    width += fprintf(to, "%-6s  %-10s  object %-2u  %-9s %u", service, responses[m.response], m.object, id, m.id);
-    if (m.kind == FRAGMENT || m.data_length > 0)
+    width += fprintf(to, "%-6s  %-10s  object %-2u  %-9s %u", long_services[m.service], responses[m.response], m.object, long_ids[m.service], m.id);
+    if (m.kind == SDS_KIND_FRAGMENT || m.length > 0)
         width += fprintf(to, "%*s", WORDS_COLUMN - width, "");
-    if (m.kind == FRAGMENT)
-        width += fprintf(to, "fragment %-3u of %-3u bytes%s", m.fragment, m.total, m.data_length > 0 ? "  " : "");
-    if (m.data_length > 0)
+    if (m.kind == SDS_KIND_FRAGMENT)
+        width += fprintf(to, "fragment %-3u of %-3u bytes%s", m.number, m.total, m.length > 0 ? "  " : "");
+    if (m.length > 0)
         width += fprintf(to, "data");
-    return width + words_bytes(to, m.data, m.data_length);
+    return width + words_bytes(to, m.data, m.length);
 }

@@ -5,45 +5,31 @@
  * knows stands in buffers that you lend it for the time of a call. There is no set-up call, no heap and no state besides those buffers, so one
  * program can serve as many devices as it has buffers for.
  *
- *     static const uint8_t table[] = { 3, 10, 3, 2, 0, 0, 0, 0 };     object 3, attribute 10: two bytes, may be read and written
- *     static uint8_t store[2], work[SDS_WORK], out[SDS_OUT];          work must be all zero at the start
+ *     static const uint8_t table[] = {3, 10, 3, 2, 0, 0, 0, 0};    object 3, attribute 10: two bytes, may be read and written
+ *     static uint8_t store[2], work[SDS_WORK], out[SDS_OUT];       zeros: work must begin so
  *
- *     uint32_t reply = sds_step(record, 10, 9, table, sizeof table, store, sizeof store, work, sizeof work, out, sizeof out);
+ *     static const struct sds_device device = {
+ *         .address = 9,
+ *         .table = {table, sizeof table},
+ *         .store = {store, sizeof store},
+ *         .work = {work, sizeof work},
+ *         .out = {out, sizeof out},
+ *     };
+ *
+ *     uint32_t reply = sds_device_step(&device, record, SDS_RECORD);
  *     for (uint32_t i = 0; i < SDS_COUNT(reply); i++)
- *         send(out + 10 * i);
+ *         send(out + SDS_RECORD * i);
  *
  * A record is a CAN frame as ten bytes: the upper eight bits of the 11-bit identifier (Dir/Pri, then the address), then a byte of the lower
- * three (the service), RTR and DLC, then eight data bytes. Data bytes beyond the DLC are not read, and are written as 0.
+ * three (the service), RTR and DLC, then eight data bytes. Data bytes beyond the DLC are not read, and are written as 0. sds_can.h makes
+ * records of frames and frames of records.
  *
- * A table is records of eight bytes, at most 1,024, none is legal: object 0..31; attribute ID; access (1 read + 2 write + 4 network data); length
- * 1..255; offset in the store, low byte first; data descriptor, low byte first, 0 unless network data. Object and ID rise from record to record,
- * the first offset is 0 and each next one is the end of the record before, the last end is inside the store, and a network record is as long as
- * its descriptor says. sds_table_check tells.
+ * A table is records of struct sds_attribute, up to SDS_ATTRIBUTES of them; none is legal. It is well formed if each field is in its range,
+ * object and ID rise from record to record, the first offset is 0 and each next one is the end of the record before, the last end is not
+ * beyond the store, and a network record is as long as its descriptor says. sds_table_check tells.
  *
  * What you owe: buffers that do not overlap, each as long as you say; a null pointer only with a length of 0. Nothing else: every content and
  * every length gets an answer, and every call ends.
- *
- * Numbers of a reply. The first whose condition holds is given:
- *
- *      0  served
- *      1  the record is not 10 bytes; the table no multiple of 8 or over 8,192; the store over 32,768; the work area not SDS_WORK; the
- *         output under SDS_OUT; the own address over 125
- *      2  the table is not well formed
- *      3  RTR, a DLC over 8, or address 126 or 127
- *      4  sent by a guest, or to another address
- *      5  the short form (DLC 0 or 1), or a service of 0 to 3
- *      6  not a Request
- *      7  Action or Event
- *      8  a Read with the fragment flag or with data; a fragment of a Write without number and total
- *      9  no such object and attribute
- *     10  the attribute may not be read, or not be written
- *     11  a Write of another length than the attribute's
- *     12  a fragment that begins at or behind the total, or of another length than its place asks for
- *     13  a fragment number above 63
- *     14  a fragment that does not follow the one before
- *
- * 1 to 6 alter nothing at all. 7 to 13 put one error frame into the first ten bytes of the output and alter nothing else. 14 does that too, and
- * drops what was joined so far for that object. With 0 there are 0 to 64 frames; the output beyond them stays as it was.
  */
 #ifndef SDS_H
 #define SDS_H
@@ -54,48 +40,143 @@
 extern "C" {
 #endif
 
-#define SDS_RECORD 10    /* bytes of a record */
-#define SDS_MESSAGE 16   /* bytes of a message, see sds_read */
-#define SDS_WORK 8320    /* bytes of a work area: 32 records of 260 bytes, one for each object */
-#define SDS_OUT 640      /* least bytes of an output: 64 frames */
+#define SDS_RECORD 10                                           /* bytes of a record */
+#define SDS_MESSAGE 16                                          /* bytes of a message */
+#define SDS_ADDRESS_MOST 125                                    /* highest address of a device */
+#define SDS_OBJECTS 32                                          /* objects of a device, from 0 */
+#define SDS_ATTRIBUTES 1024                                     /* most records of a table */
+#define SDS_TABLE_RECORD 8                                      /* bytes of one */
+#define SDS_TABLE_MOST (SDS_ATTRIBUTES * SDS_TABLE_RECORD)      /* most bytes of a table */
+#define SDS_STORE_MOST 32768                                    /* most bytes of a store */
+#define SDS_WORK_RECORD 260                                     /* bytes of one object's part of a work area */
+#define SDS_WORK (SDS_OBJECTS * SDS_WORK_RECORD)                /* bytes of a work area */
+#define SDS_FRAMES 64                                           /* most frames of an answer */
+#define SDS_OUT (SDS_FRAMES * SDS_RECORD)                       /* least bytes of an output */
 
+/* A reply is a number and a count of frames. */
 #define SDS_NUMBER(reply) ((reply) & 255u)
 #define SDS_COUNT(reply) ((reply) >> 8)
 
 /*
- * One frame. Gives the number of the reply and 256 times the count of frames, which stand at the front of `out`, ten bytes each, in the order in
- * which they are to be sent. Writes alter `store`, fragments of Writes alter `work`, and nothing alters `record` and `table`.
- * `own` is 32 bits wide so that 265 is refused and not taken for 9.
+ * The number of a reply. The first whose condition holds is given.
+ *
+ * 1 to 6 alter nothing at all. 7 to 13 put one error frame at the front of the output and alter nothing else. 14 does that too, and drops what
+ * was joined so far for that object. With 0 there are 0 to SDS_FRAMES frames; the output beyond them stays as it was.
  */
-uint32_t sds_step(const uint8_t *record, uint64_t record_len, uint32_t own,
+enum sds_number {
+    SDS_SERVED = 0,
+    SDS_BAD_LENGTH = 1,         /* a record not of SDS_RECORD bytes; a table no multiple of SDS_TABLE_RECORD or over SDS_TABLE_MOST; a store over
+                                   SDS_STORE_MOST; a work area not of SDS_WORK; an output under SDS_OUT; an own address over SDS_ADDRESS_MOST */
+    SDS_BAD_TABLE = 2,          /* the table is not well formed */
+    SDS_BAD_FRAME = 3,          /* RTR, a DLC over 8, or an address over SDS_ADDRESS_MOST */
+    SDS_NOT_ADDRESSED = 4,      /* sent by a guest, or to another address */
+    SDS_BAD_SERVICE = 5,        /* DLC 0, which is the short form, or 1, which is none; or a service of 0 to 3 */
+    SDS_NOT_REQUEST = 6,        /* not a Request */
+    SDS_ACTION_OR_EVENT = 7,    /* Action or Event */
+    SDS_BAD_FORM = 8,           /* a Read with the fragment flag or with data; a fragment of a Write too short for number and total */
+    SDS_NO_ATTRIBUTE = 9,       /* no such object and attribute */
+    SDS_NO_ACCESS = 10,         /* the attribute may not be read, or not be written */
+    SDS_OTHER_LENGTH = 11,      /* a Write of another length than the attribute's */
+    SDS_BAD_FRAGMENT = 12,      /* a fragment that begins at or behind the total, or of another length than its place asks for */
+    SDS_BAD_NUMBER = 13,        /* a fragment number above 63; never given, since 12 comes first */
+    SDS_OUT_OF_ORDER = 14       /* a fragment that does not follow the one before */
+};
+
+/*
+ * One frame. Gives a reply, whose frames stand at the front of `out`, SDS_RECORD bytes each, in the order in which they are to be sent. Writes
+ * alter `store`, fragments of Writes alter `work`, and nothing alters `record` and `table`.
+ * `address` is the device's own, and 32 bits wide so that 265 is refused and not taken for 9.
+ */
+uint32_t sds_step(const uint8_t *record, uint64_t record_len, uint32_t address,
                   const uint8_t *table, uint64_t table_len, uint8_t *store, uint64_t store_len,
                   uint8_t *work, uint64_t work_len, uint8_t *out, uint64_t out_len);
 
-/*
- * Takes a record apart. Gives 0, and then `message` holds:
- *
- *     0 kind: 0 short form, 1 whole, 2 fragment     5 object                  10..15 data
- *     1 Dir/Pri                                     6 attribute, action or event ID
- *     2 address                                     7 fragment number
- *     3 service                                     8 total of the fragmented message
- *     4 0 Request, 1 Successful, 2 Error, 3 Wait    9 data length
- *
- * Places that a kind does not use are 0. Refused are 1 (a record not of 10 bytes, a message not of 16), 3, 5 and 8, as above but for any
- * address, direction and service; then `message` stays as it was.
- */
-uint32_t sds_read(const uint8_t *record, uint64_t record_len, uint8_t *message, uint64_t message_len);
+/* What a device lends to each of its calls, and sds_step by it. */
+struct sds_table {
+    const uint8_t *bytes;
+    uint64_t length;
+};
+struct sds_area {
+    uint8_t *bytes;
+    uint64_t length;
+};
+struct sds_device {
+    uint32_t address;
+    struct sds_table table;
+    struct sds_area store, work, out;
+};
 
-/*
- * Puts a record together from a message. Gives 0, and then all ten bytes of `record` are set. Refused are 1 (a length) and 3 (a message that
- * sds_read gives for no record: a place out of its range, or an unused one that is not 0); then `record` stays as it was.
- */
-uint32_t sds_write(const uint8_t *message, uint64_t message_len, uint8_t *record, uint64_t record_len);
+static inline uint32_t sds_device_step(const struct sds_device *device, const uint8_t *record, uint64_t record_len)
+{
+    return sds_step(record, record_len, device->address,
+                    device->table.bytes, device->table.length, device->store.bytes, device->store.length,
+                    device->work.bytes, device->work.length, device->out.bytes, device->out.length);
+}
+
+/* A record of a table. Numbers of two bytes have the low byte first. */
+struct sds_attribute {
+    uint8_t object;           /* under SDS_OBJECTS */
+    uint8_t id;
+    uint8_t access;           /* enum sds_access, no other bits */
+    uint8_t length;           /* 1 to 255 */
+    uint8_t offset[2];        /* in the store */
+    uint8_t descriptor[2];    /* the data descriptor; 0 unless network data */
+};
+enum sds_access { SDS_ACCESS_READ = 1, SDS_ACCESS_WRITE = 2, SDS_ACCESS_NETWORK = 4 };
+
+/* What sds_step says of a table and of a store of this length, for whichever frame: 0 (well), 1 (their lengths) or 2 (not well formed). */
+uint32_t sds_table_check(const uint8_t *table, uint64_t table_len, uint64_t store_len);
 
 /* The bytes that a data descriptor of the component model describes; 0 where it is refused, as is every number over 65,535. */
 uint32_t sds_descriptor_size(uint32_t descriptor);
 
-/* What sds_step says of a table and of a store of this length, for whichever frame: 0 (well), 1 (their lengths) or 2 (not well formed). */
-uint32_t sds_table_check(const uint8_t *table, uint64_t table_len, uint64_t store_len);
+/* A record taken apart. Fields that a kind does not use are 0: the short form ends at its service, and a whole message has no number and total. */
+struct sds_message {
+    uint8_t kind;          /* enum sds_kind */
+    uint8_t from_guest;    /* Dir/Pri: 0 where the address is that of the receiver, 1 where it is that of the sender */
+    uint8_t address;
+    uint8_t service;       /* enum sds_service, but in the short form 0 to 7, with other meanings */
+    uint8_t response;      /* enum sds_response */
+    uint8_t object;
+    uint8_t id;            /* of the attribute, action or event */
+    uint8_t number;        /* of the fragment */
+    uint8_t total;         /* bytes of the fragmented message */
+    uint8_t length;        /* bytes of data, at most 6, of a fragment 4 */
+    uint8_t data[6];
+};
+enum sds_kind { SDS_KIND_SHORT = 0, SDS_KIND_WHOLE = 1, SDS_KIND_FRAGMENT = 2 };
+enum sds_service { SDS_SERVICE_WRITE = 4, SDS_SERVICE_READ = 5, SDS_SERVICE_ACTION = 6, SDS_SERVICE_EVENT = 7 };
+enum sds_response { SDS_REQUEST = 0, SDS_SUCCESSFUL = 1, SDS_ERROR = 2, SDS_WAIT = 3 };
+
+/*
+ * Takes a record apart. Gives 0, and then `message` holds a struct sds_message; or the first of these, and then `message` stays as it was:
+ *
+ *     1  the record is not SDS_RECORD bytes, or the message not SDS_MESSAGE
+ *     3  as above
+ *     5  DLC 1, or DLC 2 up with a service of 0 to 3
+ *     8  the fragment flag with DLC 2 or 3, whatever the service
+ */
+uint32_t sds_read(const uint8_t *record, uint64_t record_len, uint8_t *message, uint64_t message_len);
+
+/*
+ * Puts a record together from a message. Gives 0, and then all bytes of `record` are set. Refused are 1 (a length) and 3 (a message that
+ * sds_read gives for no record: a field out of its range, or an unused one that is not 0); then `record` stays as it was.
+ */
+uint32_t sds_write(const uint8_t *message, uint64_t message_len, uint8_t *record, uint64_t record_len);
+
+static inline uint32_t sds_message_read(const uint8_t record[SDS_RECORD], struct sds_message *message)
+{
+    return sds_read(record, SDS_RECORD, (uint8_t *)message, sizeof *message);
+}
+
+static inline uint32_t sds_message_write(const struct sds_message *message, uint8_t record[SDS_RECORD])
+{
+    return sds_write((const uint8_t *)message, sizeof *message, record, SDS_RECORD);
+}
+
+/* The structs of bytes have no gaps: a compiler that sees it otherwise stops here. */
+typedef char sds_attribute_has_no_gaps[sizeof(struct sds_attribute) == SDS_TABLE_RECORD ? 1 : -1];
+typedef char sds_message_has_no_gaps[sizeof(struct sds_message) == SDS_MESSAGE ? 1 : -1];
 
 #ifdef __cplusplus
 }

@@ -1,4 +1,5 @@
-# Sourced by the other scripts, from the top of the repository. The archive is x86-64, and machines are x86-64 or Arm:
+# Sourced by the other scripts, from the top of the repository. Installs Debian's C compiler for x86-64 where it is missing.
+# The archive is x86-64, and machines are x86-64 or Arm:
 #   $kit, $tools   the Rattle kit, and its clang, ld.lld and llvm-ar for this machine
 #   $cc, $cross    a C compiler for x86-64, and the prefix of its binutils
 #   $run           the command before a program for x86-64: nothing, or the kit's emulator

@@ -16,25 +16,25 @@ struct codec_row {
 };
 
 static const struct codec_row reads[] = {
-    {"short form", 0, 10, {9, 0x80}},
-    {"whole, 2 bytes", 0, 10, {9, 0x84, 3, 10, 1, 2}},
-    {"whole, 6 bytes", 0, 10, {9, 0x88, 3, 10, 1, 2, 3, 4, 5, 6}},
-    {"fragment, 4 bytes", 0, 10, {9, 0x88, 0x23, 10, 3, 32, 1, 2, 3, 4}},
-    {"refusal 1, 9 bytes", 1, 9, {9, 0x84, 3, 10, 1, 2}},
-    {"refusal 3, address 126", 3, 10, {126, 0x84, 3, 10, 1, 2}},
-    {"refusal 5, service 3", 5, 10, {9, 0x64, 3, 10, 1, 2}},
-    {"refusal 8, fragment, DLC 3", 8, 10, {9, 0x83, 0x23, 10, 1}},
+    {"short form", 0, SDS_RECORD, {9, 0x80}},
+    {"whole, 2 bytes", 0, SDS_RECORD, {9, 0x84, 3, 10, 1, 2}},
+    {"whole, 6 bytes", 0, SDS_RECORD, {9, 0x88, 3, 10, 1, 2, 3, 4, 5, 6}},
+    {"fragment, 4 bytes", 0, SDS_RECORD, {9, 0x88, 0x23, 10, 3, 32, 1, 2, 3, 4}},
+    {"refusal 1, 9 bytes", 1, SDS_RECORD - 1, {9, 0x84, 3, 10, 1, 2}},
+    {"refusal 3, address 126", 3, SDS_RECORD, {126, 0x84, 3, 10, 1, 2}},
+    {"refusal 5, service 3", 5, SDS_RECORD, {9, 0x64, 3, 10, 1, 2}},
+    {"refusal 8, fragment, DLC 3", 8, SDS_RECORD, {9, 0x83, 0x23, 10, 1}},
 };
 
 static const struct codec_row writes[] = {
-    {"short form", 0, 16, {0, 0, 9, 4}},
-    {"whole, 2 bytes", 0, 16, {1, 0, 9, 4, 0, 3, 10, 0, 0, 2, 1, 2}},
-    {"whole, 6 bytes", 0, 16, {1, 0, 9, 4, 0, 3, 10, 0, 0, 6, 1, 2, 3, 4, 5, 6}},
-    {"fragment, 4 bytes", 0, 16, {2, 0, 9, 4, 0, 3, 10, 3, 32, 4, 1, 2, 3, 4}},
-    {"refusal 1, 15 bytes", 1, 15, {1, 0, 9, 4, 0, 3, 10, 0, 0, 2, 1, 2}},
-    {"refusal 3, kind 3", 3, 16, {3, 0, 9, 4, 0, 3, 10, 0, 0, 2, 1, 2}},
-    {"refusal 3, object 32", 3, 16, {1, 0, 9, 4, 0, 32, 10, 0, 0, 2, 1, 2}},
-    {"refusal 3, a byte beyond the data", 3, 16, {1, 0, 9, 4, 0, 3, 10, 0, 0, 2, 1, 2, 0, 0, 0, 1}},
+    {"short form", 0, SDS_MESSAGE, {0, 0, 9, 4}},
+    {"whole, 2 bytes", 0, SDS_MESSAGE, {1, 0, 9, 4, 0, 3, 10, 0, 0, 2, 1, 2}},
+    {"whole, 6 bytes", 0, SDS_MESSAGE, {1, 0, 9, 4, 0, 3, 10, 0, 0, 6, 1, 2, 3, 4, 5, 6}},
+    {"fragment, 4 bytes", 0, SDS_MESSAGE, {2, 0, 9, 4, 0, 3, 10, 3, 32, 4, 1, 2, 3, 4}},
+    {"refusal 1, 15 bytes", 1, SDS_MESSAGE - 1, {1, 0, 9, 4, 0, 3, 10, 0, 0, 2, 1, 2}},
+    {"refusal 3, kind 3", 3, SDS_MESSAGE, {3, 0, 9, 4, 0, 3, 10, 0, 0, 2, 1, 2}},
+    {"refusal 3, object 32", 3, SDS_MESSAGE, {1, 0, 9, 4, 0, 32, 10, 0, 0, 2, 1, 2}},
+    {"refusal 3, a byte beyond the data", 3, SDS_MESSAGE, {1, 0, 9, 4, 0, 3, 10, 0, 0, 2, 1, 2, 0, 0, 0, 1}},
 };
 
 /* the direction that is counted: whom it calls, and the buffer that it fills */

@@ -2,14 +2,13 @@
 #ifndef COUNTING_H
 #define COUNTING_H
 
-#include <stdint.h>
 #include "sds.h"
 
 enum side { EMPTY, CORE, PLAIN, SIDES };
 
 /* everything that a call may alter */
 struct lent {
-    uint8_t store[32768];
+    uint8_t store[SDS_STORE_MOST];
     uint8_t work[SDS_WORK];
     uint8_t out[SDS_OUT];
     uint8_t message[SDS_MESSAGE];

@@ -6,14 +6,13 @@
 #include "tables.h"
 
 #define OWN 9
-#define JOIN 260    /* bytes of an object's record in the work area */
 
 typedef uint32_t step_function(const uint8_t *record, uint64_t record_len, uint32_t own, const uint8_t *table, uint64_t table_len,
                                uint8_t *store, uint64_t store_len, uint8_t *work, uint64_t work_len, uint8_t *out, uint64_t out_len);
 step_function empty_step;
 static step_function *const steps[SIDES] = {empty_step, sds_step, ref_step};
 
-enum oddity { NONE, OWN_IS_126, SHORT_STORE, NO_SUCH_ID };
+enum oddity { NONE, OWN_TOO_HIGH, SHORT_STORE, NO_SUCH_ID };
 
 struct step_row {
     const char *name;
@@ -34,7 +33,7 @@ static const struct step_row rows[] = {
     {"fragment 3 of 32 bytes, kept", 0, 0, 32, 3, {OWN, 0x88, 0x20, 0, 3, 32, 1, 2, 3, 4}, 32, 3, NONE},
     {"last fragment of 32 bytes", 0, 1, 32, 3, {OWN, 0x88, 0x20, 0, 7, 32, 1, 2, 3, 4}, 32, 7, NONE},
     {"last fragment of 255 bytes", 0, 1, 255, 3, {OWN, 0x87, 0x20, 0, 63, 255, 1, 2, 3}, 255, 63, NONE},
-    {"refusal 1, own address 126", 1, 0, 0, 0, {OWN, 0xA2}, 0, 0, OWN_IS_126},
+    {"refusal 1, own address 126", 1, 0, 0, 0, {OWN, 0xA2}, 0, 0, OWN_TOO_HIGH},
     {"refusal 2, store a byte short", 2, 0, 2, 3, {OWN, 0xA2}, 0, 0, SHORT_STORE},
     {"refusal 3, address 126", 3, 0, 0, 0, {126, 0xA2}, 0, 0, NONE},
     {"refusal 4, address 10", 4, 0, 0, 0, {OWN + 1, 0xA2}, 0, 0, NONE},
@@ -58,10 +57,10 @@ struct step_call {
 static uint32_t make_call(enum side side, const void *row)
 {
     const struct step_call *call = row;
-    const struct table *table = &call->table;
+    struct sds_table table = lent_table(&call->table);
     step_function *step = steps[side];
     mark_begin();
-    uint32_t reply = step(call->record, SDS_RECORD, call->own, table->bytes, ENTRY * table->records, lent.store, table->store, lent.work,
+    uint32_t reply = step(call->record, SDS_RECORD, call->own, table.bytes, table.length, lent.store, call->table.store, lent.work,
                           sizeof lent.work, lent.out, sizeof lent.out);
     mark_end();
     return reply;
@@ -73,10 +72,10 @@ static void fill_lent(const struct step_row *row, uint8_t object, uint8_t id)
     for (unsigned i = 0; i < sizeof before.store; i++)
         before.store[i] = (uint8_t)(7 * i + 1);
     for (unsigned i = 0; i < sizeof before.work; i++)
-        before.work[i] = i % JOIN ? (uint8_t)(3 * i + 2) : 0;
+        before.work[i] = i % SDS_WORK_RECORD ? (uint8_t)(3 * i + 2) : 0;
     memset(before.out, 0xEE, sizeof before.out);
     if (row->total)
-        memcpy(before.work + JOIN * object, (const uint8_t[]){1, id, row->total, row->next}, 4);
+        memcpy(before.work + SDS_WORK_RECORD * object, (const uint8_t[]){1, id, row->total, row->next}, 4);
 }
 
 /* One row with a table whose last record, or first one, is the attribute that is asked for. */
@@ -87,12 +86,13 @@ static void count_step(const struct step_row *row, unsigned records, int first)
     make_table(table, records, MIXED);
     if (row->length)
         set_wanted(table, first ? 0 : records - 1, row->length, row->access);
-    demand(sds_table_check(table->bytes, ENTRY * records, table->store) == 0, "sds_step", row->name);
+    struct sds_table made = lent_table(table);
+    demand(sds_table_check(made.bytes, made.length, table->store) == SDS_SERVED, "sds_step", row->name);
     if (row->oddity == SHORT_STORE)
         table->store--;
     if (row->oddity == NO_SUCH_ID)
-        table->object = 31, table->id = 255;
-    call.own = row->oddity == OWN_IS_126 ? 126 : OWN;
+        table->object = SDS_OBJECTS - 1, table->id = 255;
+    call.own = row->oddity == OWN_TOO_HIGH ? SDS_ADDRESS_MOST + 1 : OWN;
     memcpy(call.record, row->record, SDS_RECORD);
     call.record[2] |= table->object;
     call.record[3] = table->id;
@@ -101,18 +101,18 @@ static void count_step(const struct step_row *row, unsigned records, int first)
     char name[64], size[16];
     snprintf(name, sizeof name, "%s%s", row->name, first ? ", first record" : "");
     snprintf(size, sizeof size, "%u", records);
-    count_row("sds_step", name, size, make_call, &call, row->number + 256u * row->frames);
+    count_row("sds_step", name, size, make_call, &call, row->number + (uint32_t)REF_PER_FRAME * row->frames);
 }
 
 void step_rows(void)
 {
-    static const unsigned sizes[] = {0, 4, 64, RECORDS};
+    static const unsigned sizes[] = {0, 4, 64, SDS_ATTRIBUTES};
     for (unsigned i = 0; i < sizeof rows / sizeof rows[0]; i++) {
         const struct step_row *row = &rows[i];
         for (unsigned k = 0; k < sizeof sizes / sizeof sizes[0]; k++)
             if (sizes[k] || !row->length)
                 count_step(row, sizes[k], 0);
-        if (row->number == 0 && row->record[1] == 0xA2)    /* a served Read */
-            count_step(row, RECORDS, 1);
+        if (row->number == SDS_SERVED && row->record[1] == 0xA2)    /* a Read */
+            count_step(row, SDS_ATTRIBUTES, 1);
     }
 }

@@ -31,9 +31,10 @@ static const struct size_row size_rows[] = {
 static uint32_t call_check(enum side side, const void *row)
 {
     const struct table *table = row;
+    struct sds_table made = lent_table(table);
     check_function *check = checks[side];
     mark_begin();
-    uint32_t reply = check(table->bytes, ENTRY * table->records, table->store);
+    uint32_t reply = check(made.bytes, made.length, table->store);
     mark_end();
     return reply;
 }
@@ -59,11 +60,11 @@ static void count_check(const char *name, enum mix mix, unsigned records)
 
 void table_rows(void)
 {
-    static const unsigned lengths[] = {0, 4, 64, RECORDS};
+    static const unsigned lengths[] = {0, 4, 64, SDS_ATTRIBUTES};
     for (unsigned i = 0; i < sizeof lengths / sizeof lengths[0]; i++)
         count_check("mixed records", MIXED, lengths[i]);
-    count_check("plain records", ALL_PLAIN, RECORDS);
-    count_check("Boolean records", ALL_BOOLEAN, RECORDS);
+    count_check("plain records", ALL_PLAIN, SDS_ATTRIBUTES);
+    count_check("Boolean records", ALL_BOOLEAN, SDS_ATTRIBUTES);
     for (unsigned i = 0; i < sizeof size_rows / sizeof size_rows[0]; i++)
         count_row("sds_descriptor_size", size_rows[i].name, "-", call_size, &size_rows[i], size_rows[i].size);
 }

@@ -1,24 +1,26 @@
 #include "tables.h"
 #include <string.h>
 
-#define PER_OBJECT 32    /* so that 1,024 records use all 32 objects */
+#define PER_OBJECT (SDS_ATTRIBUTES / SDS_OBJECTS)    /* so that the longest table uses all objects */
 
 struct kind {
     uint8_t access, length;
     uint16_t descriptor;
 };
 
+enum { PLAIN = SDS_ACCESS_READ | SDS_ACCESS_WRITE, NETWORK = PLAIN | SDS_ACCESS_NETWORK };
+
 /* a plain word, a Boolean, an integer word and a name of 32 characters */
-static const struct kind kinds[] = {{3, 2, 0}, {7, 1, 0x0100}, {7, 2, 0x0040}, {7, 32, 0x073F}};
+static const struct kind kinds[] = {{PLAIN, 2, 0}, {NETWORK, 1, 0x0100}, {NETWORK, 2, 0x0040}, {NETWORK, 32, 0x073F}};
 
 static void place_behind(struct table *table)
 {
     unsigned end = 0;
     for (unsigned i = 0; i < table->records; i++) {
-        uint8_t *entry = table->bytes + ENTRY * i;
-        entry[4] = (uint8_t)end;
-        entry[5] = (uint8_t)(end >> 8);
-        end += entry[3];
+        struct sds_attribute *attribute = &table->attributes[i];
+        attribute->offset[0] = (uint8_t)end;
+        attribute->offset[1] = (uint8_t)(end >> 8);
+        end += attribute->length;
     }
     table->store = end;
 }
@@ -29,24 +31,24 @@ void make_table(struct table *table, unsigned records, enum mix mix)
     table->records = records;
     for (unsigned i = 0; i < records; i++) {
         const struct kind *kind = &kinds[mix == MIXED ? i % 4 : mix == ALL_BOOLEAN];
-        uint8_t *entry = table->bytes + ENTRY * i;
-        entry[0] = (uint8_t)(i / PER_OBJECT);
-        entry[1] = (uint8_t)(i % PER_OBJECT);
-        entry[2] = kind->access;
-        entry[3] = kind->length;
-        entry[6] = (uint8_t)kind->descriptor;
-        entry[7] = (uint8_t)(kind->descriptor >> 8);
+        table->attributes[i] = (struct sds_attribute){
+            .object = (uint8_t)(i / PER_OBJECT),
+            .id = (uint8_t)(i % PER_OBJECT),
+            .access = kind->access,
+            .length = kind->length,
+            .descriptor = {(uint8_t)kind->descriptor, (uint8_t)(kind->descriptor >> 8)},
+        };
     }
     place_behind(table);
 }
 
 void set_wanted(struct table *table, unsigned place, uint8_t length, uint8_t access)
 {
-    uint8_t *entry = table->bytes + ENTRY * place;
-    entry[2] = access;
-    entry[3] = length;
-    entry[6] = entry[7] = 0;
+    struct sds_attribute *attribute = &table->attributes[place];
+    attribute->access = access;
+    attribute->length = length;
+    memset(attribute->descriptor, 0, sizeof attribute->descriptor);
     place_behind(table);
-    table->object = entry[0];
-    table->id = entry[1];
+    table->object = attribute->object;
+    table->id = attribute->id;
 }

@@ -2,20 +2,23 @@
 #ifndef TABLES_H
 #define TABLES_H
 
-#include <stdint.h>
-
-#define RECORDS 1024
-#define ENTRY 8
+#include "sds.h"
 
 struct table {
-    uint8_t bytes[RECORDS * ENTRY];
-    unsigned records;
+    struct sds_attribute attributes[SDS_ATTRIBUTES];
+    unsigned records;          /* how many of them it has */
     unsigned store;            /* bytes of the store that it asks for */
     uint8_t object, id;        /* of the attribute that a row asks for */
 };
 
 /* What the records are: plain ones and ones of network data by turns, or of one kind. */
 enum mix { MIXED, ALL_PLAIN, ALL_BOOLEAN };
+
+/* as it is lent */
+static inline struct sds_table lent_table(const struct table *table)
+{
+    return (struct sds_table){(const uint8_t *)table->attributes, SDS_TABLE_RECORD * table->records};
+}
 
 void make_table(struct table *table, unsigned records, enum mix mix);
 

@@ -10,7 +10,7 @@
 static const char help[] =
     "usage: explain [--table FILE --address N] [RECORDS..]\n"
     "\n"
-    "Prints each Smart Distributed System frame, a record of 10 bytes (see sds.h), as\n"
+    "Prints each Smart Distributed System frame, a record of %d bytes (see sds.h), as\n"
     "a line of words, as it arrives; from standard input where no file is named.\n"
     "\n"
     "An Error frame does not say why. With the table and the address of a device,\n"
@@ -26,7 +26,7 @@ static bool follows;
 
 /* requests that are to be answered, oldest first: what their answers carry, how many frames are left, and the number of the reply */
 static struct request {
-    struct message answer;
+    struct sds_message answer;
     uint32_t frames, number;
 } waiting[256];
 static size_t waiting_count;
@@ -48,18 +48,18 @@ static void play(const uint8_t record[SDS_RECORD])
     struct request *request = &waiting[waiting_count++];
     request->frames = SDS_COUNT(reply);
     request->number = SDS_NUMBER(reply);
-    words_read(device.out, &request->answer);
+    sds_message_read(device.out, &request->answer);
 }
 
-static bool answers(const struct message *answer, const struct request *request)
+static bool answers(const struct sds_message *answer, const struct request *request)
 {
-    const struct message *due = &request->answer;
-    return answer->kind != SHORT_FORM && answer->from_guest && answer->address == due->address && answer->service == due->service &&
+    const struct sds_message *due = &request->answer;
+    return answer->kind != SDS_KIND_SHORT && answer->from_guest && answer->address == due->address && answer->service == due->service &&
            answer->object == due->object && answer->id == due->id;
 }
 
 /* A guest answers in order: a request that is older than the one answered will not be answered any more. */
-static void explain_answer(const struct message *answer)
+static void explain_answer(const struct sds_message *answer)
 {
     size_t i = 0;
     while (i < waiting_count && !answers(answer, &waiting[i]))
@@ -68,7 +68,7 @@ static void explain_answer(const struct message *answer)
         printf("no request for it was seen");
         return;
     }
-    if ((answer->response == ERROR) != (waiting[i].number != 0))
+    if ((answer->response == SDS_ERROR) != (waiting[i].number != SDS_SERVED))
         printf("but by the table ");
     words_number(stdout, waiting[i].number);
     forget(--waiting[i].frames == 0 ? i + 1 : i);
@@ -76,11 +76,11 @@ static void explain_answer(const struct message *answer)
 
 static void explain(const uint8_t record[SDS_RECORD])
 {
-    struct message message;
+    struct sds_message message;
     int width = words_record(stdout, record);
     if (follows)
         play(record);
-    if (follows && words_read(record, &message) == 0 && message.from_guest && message.address == device.address) {
+    if (follows && sds_message_read(record, &message) == SDS_SERVED && message.from_guest && message.address == device.address) {
         printf("%*s", width < WORDS_COLUMN ? WORDS_COLUMN - width : 2, "");
         explain_answer(&message);
     }
@@ -128,7 +128,7 @@ int main(int argc, char **argv)
         switch (option) {
         case 't': table = optarg; break;
         case 'a': address = optarg; break;
-        case 'h': fputs(help, stdout); return 0;
+        case 'h': printf(help, SDS_RECORD); return 0;
         default: return 2;
         }
     if ((table == NULL) != (address == NULL))

@@ -15,8 +15,8 @@ void device_set_address(struct device *device, const char *text)
 {
     size_t digits = strspn(text, "0123456789");
     unsigned long number = strtoul(text, NULL, 10);
-    if (digits == 0 || text[digits] != '\0' || number > ADDRESS_MOST)
-        errx(2, "address %s: not a number from 0 to %d", text, ADDRESS_MOST);
+    if (digits == 0 || text[digits] != '\0' || number > SDS_ADDRESS_MOST)
+        errx(2, "address %s: not a number from 0 to %d", text, SDS_ADDRESS_MOST);
     device->address = (uint32_t)number;
 }
 
@@ -34,61 +34,104 @@ static size_t read_all(int file, const char *path, uint8_t *bytes, size_t most)
     return length;
 }
 
+/* What is wrong with a table is found by asking the core about others: such with one thing of it, and all else well. */
+
+static bool is_well(const struct sds_attribute *records, size_t count, size_t store_length)
+{
+    return sds_table_check((const uint8_t *)records, count * sizeof *records, store_length) == SDS_SERVED;
+}
+
+/* wherever it stands in the store */
+static bool is_well_alone(struct sds_attribute record)
+{
+    memset(record.offset, 0, sizeof record.offset);
+    return is_well(&record, 1, SDS_STORE_MOST);
+}
+
+static bool rises(const struct sds_attribute *before, const struct sds_attribute *record)
+{
+    const struct sds_attribute pair[2] = {
+        {.object = before->object, .id = before->id, .length = 1},
+        {.object = record->object, .id = record->id, .length = 1, .offset = {1, 0}},
+    };
+    return is_well(pair, 2, SDS_STORE_MOST);
+}
+
+/* The least store for records that are well in the longest. */
+static size_t store_needed(const struct sds_attribute *records, size_t count)
+{
+    size_t least = 0, enough = SDS_STORE_MOST;
+    while (least < enough) {
+        size_t middle = (least + enough) / 2;
+        if (is_well(records, count, middle))
+            enough = middle;
+        else
+            least = middle + 1;
+    }
+    return enough;
+}
+
 static unsigned low_byte_first(const uint8_t bytes[2])
 {
     return bytes[0] + 256u * bytes[1];
 }
 
-static unsigned offset_of(const uint8_t record[TABLE_RECORD])
+/* The rule of 01, "Object table", about bytes 0, 2, 3, 6 and 7 that a record breaks, or null. An access goes with plain data or with a descriptor. */
+static const char *broken_in_itself(const struct sds_attribute *record)
 {
-    return low_byte_first(record + 4);
+    static char object[40];
+    if (is_well_alone(*record))
+        return NULL;
+    bool plain = is_well_alone((struct sds_attribute){.access = record->access, .length = 1});
+    bool network = is_well_alone((struct sds_attribute){.access = record->access, .length = 1, .descriptor = {0x00, 0x01} /* a Boolean */});
+    if (!is_well_alone((struct sds_attribute){.object = record->object, .length = 1})) {
+        snprintf(object, sizeof object, "the object is over %d", SDS_OBJECTS - 1);
+        return object;
+    }
+    if (!plain && !network)
+        return "the access has other bits than 1, 2 and 4";
+    if (!is_well_alone((struct sds_attribute){.length = record->length}))
+        return "the length is 0";
+    if (plain)
+        return "the data descriptor is not 0, and the access has no network data";
+    if (sds_descriptor_size(low_byte_first(record->descriptor)) == 0)
+        return "the data descriptor is refused";
+    return "the length is not the data descriptor's size";
 }
 
-static unsigned end_of(const uint8_t record[TABLE_RECORD])
-{
-    return offset_of(record) + record[3];
-}
-
-/* The rule of 01, "Object table", that a record breaks, where the core says that it breaks one. The first record has none before it. */
-static const char *broken_rule(const uint8_t record[TABLE_RECORD], const uint8_t *before, size_t store_length)
+/* The rule that a record breaks where those before it are well. */
+static const char *broken_rule(const struct sds_attribute *records, size_t place, size_t store_length)
 {
     static char beyond[80];
-    unsigned descriptor = low_byte_first(record + 6);
-    bool network = record[2] & 4;
-    if (record[0] > 31)
-        return "the object is over 31";
-    if (record[2] > 7)
-        return "the access has other bits than 1, 2 and 4";
-    if (record[3] == 0)
-        return "the length is 0";
-    if (!network && descriptor != 0)
-        return "the data descriptor is not 0, and the access has no network data";
-    if (network && sds_descriptor_size(descriptor) == 0)
-        return "the data descriptor is refused";
-    if (network && sds_descriptor_size(descriptor) != record[3])
-        return "the length is not the data descriptor's size";
-    if (before != NULL && memcmp(before, record, 2) >= 0)
+    const struct sds_attribute *record = records + place;
+    const char *rule = broken_in_itself(record);
+    if (rule != NULL)
+        return rule;
+    size_t offset = store_needed(records, place);
+    if (place > 0 && !rises(record - 1, record))
         return "object and attribute do not rise";
-    if (offset_of(record) != (before == NULL ? 0 : end_of(before)))
+    if (low_byte_first(record->offset) != offset)
         return "the offset is not the end of the record before, or not 0 in the first";
-    snprintf(beyond, sizeof beyond, "its end, %u, is beyond a store of %zu bytes", end_of(record), store_length);
+    snprintf(beyond, sizeof beyond, "its end, %zu, is beyond a store of %zu bytes", offset + record->length, store_length);
     return beyond;
 }
 
-/* The core judges; the first record that is at fault is the last of the shortest part that it refuses. */
+/* The first record that is at fault is the last of the fewest that the core refuses. */
 static void check_table(const struct device *device, size_t store_length)
 {
-    const uint8_t *record = device->table;
+    const struct sds_attribute *records = (const struct sds_attribute *)device->table;
+    size_t place = 0;
     uint32_t number = sds_table_check(device->table, device->table_length, store_length);
-    if (number == 0)
+    if (number == SDS_SERVED)
         return;
-    if (number == 1)
-        errx(2, "%s: %zu bytes, no multiple of %d", device->table_path, device->table_length, TABLE_RECORD);
-    while (sds_table_check(device->table, (size_t)(record - device->table) + TABLE_RECORD, store_length) == 0)
-        record += TABLE_RECORD;
-    const uint8_t *before = record == device->table ? NULL : record - TABLE_RECORD;
-    errx(2, "%s: record %td (%02X %02X %02X %02X %02X %02X %02X %02X): %s", device->table_path, (record - device->table) / TABLE_RECORD,
-         record[0], record[1], record[2], record[3], record[4], record[5], record[6], record[7], broken_rule(record, before, store_length));
+    if (number == SDS_BAD_LENGTH)
+        errx(2, "%s: %zu bytes, no multiple of %d", device->table_path, device->table_length, SDS_TABLE_RECORD);
+    while (is_well(records, place + 1, store_length))
+        place++;
+    char bytes[3 * SDS_TABLE_RECORD + 1];
+    for (size_t i = 0; i < SDS_TABLE_RECORD; i++)
+        sprintf(bytes + 3 * i, " %02X", device->table[place * SDS_TABLE_RECORD + i]);
+    errx(2, "%s: record %zu (%s): %s", device->table_path, place, bytes + 1, broken_rule(records, place, store_length));
 }
 
 void device_load_table(struct device *device, const char *path)
@@ -97,14 +140,14 @@ void device_load_table(struct device *device, const char *path)
     int file = open(path, O_RDONLY | O_CLOEXEC);
     if (file < 0)
         err(2, "%s", path);
-    device->table_length = read_all(file, path, device->table, TABLE_MOST);
+    device->table_length = read_all(file, path, device->table, SDS_TABLE_MOST);
     close(file);
 }
 
 void device_make_store(struct device *device)
 {
-    check_table(device, STORE_MOST);
-    device->store_length = device->table_length == 0 ? 0 : end_of(device->table + device->table_length - TABLE_RECORD);
+    check_table(device, SDS_STORE_MOST);
+    device->store_length = store_needed((const struct sds_attribute *)device->table, device->table_length / SDS_TABLE_RECORD);
 }
 
 /* The file itself is replaced, not a link to it. dirname and basename cut up what they are given. */
@@ -173,7 +216,7 @@ void device_load_store(struct device *device, const char *path, bool make)
         err(2, "%s", path);
     if (!S_ISREG(kind.st_mode))
         errx(2, "%s: no regular file", path);
-    device->store_length = read_all(file, path, device->store, STORE_MOST);
+    device->store_length = read_all(file, path, device->store, SDS_STORE_MOST);
     check_table(device, device->store_length);
     /* a program that was killed may have renamed it and no more; from here on it counts as saved */
     must(device, fsync(file) == 0 && fsync(device->folder) == 0);
@@ -183,8 +226,14 @@ void device_load_store(struct device *device, const char *path, bool make)
 
 uint32_t device_step(struct device *device, const uint8_t record[SDS_RECORD])
 {
-    return sds_step(record, SDS_RECORD, device->address, device->table, device->table_length, device->store, device->store_length,
-                    device->work, sizeof device->work, device->out, sizeof device->out);
+    const struct sds_device lent = {
+        .address = device->address,
+        .table = {device->table, device->table_length},
+        .store = {device->store, device->store_length},
+        .work = {device->work, sizeof device->work},
+        .out = {device->out, sizeof device->out},
+    };
+    return sds_device_step(&lent, record, SDS_RECORD);
 }
 
 void device_save(struct device *device)

@@ -10,19 +10,17 @@
 #include <stddef.h>
 #include "sds.h"
 
-enum { ADDRESS_MOST = 125, TABLE_RECORD = 8, TABLE_MOST = 8192, STORE_MOST = 32768 };
-
 struct device {
     uint32_t address;
     const char *table_path, *store_path;
     size_t table_length, store_length;
-    uint8_t table[TABLE_MOST + 1], store[STORE_MOST + 1];    /* a byte more, which shows that a file is too long */
+    uint8_t table[SDS_TABLE_MOST + 1], store[SDS_STORE_MOST + 1];    /* a byte more, which shows that a file is too long */
     uint8_t work[SDS_WORK], out[SDS_OUT];
 
     /* the store on disk: its folder, its name there, that of the file that is to replace it, and what it holds */
     int folder;
     char *name, *new_name;
-    uint8_t saved[STORE_MOST];
+    uint8_t saved[SDS_STORE_MOST];
 };
 
 /* A device is all zero at the start; these three fill it, in this order. */
@@ -33,7 +31,7 @@ void device_load_store(struct device *device, const char *path, bool make);    /
 /* In place of a file: a store of zeros, as long as the table needs. */
 void device_make_store(struct device *device);
 
-/* sds_step; the answers stand in `out`. */
+/* sds_device_step; the answers stand in `out`. */
 uint32_t device_step(struct device *device, const uint8_t record[SDS_RECORD]);
 
 /* What the steps have altered is on disk afterwards. */

@@ -3,6 +3,9 @@
  *
  * A frame comes in, the core makes the answers, what it altered in the store goes to disk, and only then the answers go out: what is
  * acknowledged is on disk. The work area is not saved: a half-built message does not survive a restart, and never shows (01).
+ *
+ * Frames that the kernel drops because the socket's queue is full are not noticed here. If of two messages to one attribute the one loses its
+ * tail and the other its head, what is left can be joined.
  */
 #include <err.h>
 #include <errno.h>
@@ -21,6 +24,7 @@
 #include <unistd.h>
 #include "../words.h"
 #include "device.h"
+#include "sds_can.h"
 
 static const char help[] =
     "usage: gateway --address N --table FILE --store FILE [--trace] [--new-store] LINK\n"
@@ -33,8 +37,8 @@ static const char help[] =
     "\n"
     "and carries one struct can_frame in each message.\n"
     "\n"
-    "  --address N    the device's logical address, 0 to 125\n"
-    "  --table FILE   its attributes, records of 8 bytes (see sds.h)\n"
+    "  --address N    the device's logical address, 0 to %d\n"
+    "  --table FILE   its attributes, records of %d bytes (see sds.h)\n"
     "  --store FILE   their values; a Write is acknowledged when it is on disk\n"
     "  --new-store    makes the store, of zeros, where the file is missing\n"
     "  --trace        prints each frame and what becomes of it\n"
@@ -104,7 +108,7 @@ static bool wait_to_send(int link, bool queue_full)
     return !stop || moments-- > 0;
 }
 
-/* Frames and records (01, "Frame record") */
+/* Frames and records */
 
 /* The DLC as it was on the wire: Linux gives 9 to 15 apart, as 8 bytes and, since the headers that name CAN_MAX_RAW_DLC, the rest of it. */
 static unsigned dlc_of(const struct can_frame *frame)
@@ -119,24 +123,22 @@ static unsigned dlc_of(const struct can_frame *frame)
 /* Null, or what makes it no frame of SDS; all that 01 has a number for is the core's to refuse. */
 static const char *record_of(const struct can_frame *frame, uint8_t record[SDS_RECORD])
 {
-    unsigned id = frame->can_id & CAN_SFF_MASK, rtr = (frame->can_id & CAN_RTR_FLAG) != 0, dlc = dlc_of(frame);
+    unsigned dlc = dlc_of(frame);
     if (frame->can_id & CAN_ERR_FLAG)
         return "an error frame";
     if (frame->can_id & CAN_EFF_FLAG)
         return "an extended frame";
     if (dlc > 15)
         return "a frame with a length over 15";
-    memset(record, 0, SDS_RECORD);
-    record[0] = (uint8_t)(id >> 3);
-    record[1] = (uint8_t)((id & 7) << 5 | rtr << 4 | dlc);
-    memcpy(record + 2, frame->data, dlc < CAN_MAX_DLEN ? dlc : CAN_MAX_DLEN);
+    sds_can_record(record, frame->can_id & CAN_SFF_MASK, frame->can_id & CAN_RTR_FLAG, dlc, frame->data);
     return NULL;
 }
 
+/* An answer has no RTR, and a DLC of at most 8. */
 static struct can_frame frame_of(const uint8_t record[SDS_RECORD])
 {
-    struct can_frame frame = {.can_id = (canid_t)record[0] << 3 | record[1] >> 5, .can_dlc = record[1] & 15};
-    memcpy(frame.data, record + 2, CAN_MAX_DLEN);
+    struct can_frame frame = {.can_id = sds_can_identifier(record), .can_dlc = (uint8_t)sds_can_dlc(record)};
+    memcpy(frame.data, sds_can_data(record), SDS_CAN_DATA);
     return frame;
 }
 
@@ -173,7 +175,7 @@ static void trace_reply(uint32_t reply)
         return;
     printf("  ");
     words_number(stdout, SDS_NUMBER(reply));
-    if (SDS_NUMBER(reply) == 0)
+    if (SDS_NUMBER(reply) == SDS_SERVED)
         printf(", %u frame%s", SDS_COUNT(reply), SDS_COUNT(reply) == 1 ? "" : "s");
     putchar('\n');
 }
@@ -345,7 +347,7 @@ int main(int argc, char **argv)
 {
     struct options given = read_options(argc, argv);
     if (given.help) {
-        fputs(help, stdout);
+        printf(help, SDS_ADDRESS_MOST, SDS_TABLE_RECORD);
         return 0;
     }
     if (given.address == NULL || given.table == NULL || given.store == NULL || given.link == NULL)

@@ -3,21 +3,26 @@
  * sample's.
  */
 #include "mailbox.h"
-#include "sds.h"
 #include "start.h"
 #include "store.h"
 
-enum { ADDRESS = 9, STORE = 67, WRITES = 4 /* the service Write */ };
+enum { ADDRESS = 9, STORE = 67 };
 
-/* object, ID, access, length, offset (low byte first), descriptor (low byte first); see sds.h */
+/* struct sds_attribute of sds.h, byte after byte; the sample's are those of captures/sample.table */
 static const uint8_t table[] = {
-    0x02, 0x12, 5, 1, 0, 0, 0x00, 0x01,
-    0x02, 0x38, 7, 32, 1, 0, 0x3F, 0x07,
-    0x03, 0x0A, 3, 2, 33, 0, 0x00, 0x00,
-    0x03, 0x38, 7, 32, 35, 0, 0x3F, 0x07,
+#include "sample_table.h"
 };
 
 static uint8_t store[STORE], work[SDS_WORK], out[SDS_OUT];
+static uint8_t kept[STORE];    /* the store as store_changed saw it last */
+
+static const struct sds_device device = {
+    .address = ADDRESS,
+    .table = {table, sizeof table},
+    .store = {store, sizeof store},
+    .work = {work, sizeof work},
+    .out = {out, sizeof out},
+};
 
 __attribute__((weak)) void store_open(uint8_t *bytes, uint32_t length)
 {
@@ -29,29 +34,45 @@ __attribute__((weak)) void store_changed(const uint8_t *bytes, uint32_t length)
     (void)bytes, (void)length;
 }
 
-/* A Write is acknowledged when the store has altered: at once if whole, at its last fragment if not. */
-static int is_written(const uint8_t record[SDS_RECORD], uint32_t reply)
+/* Whether the store is another than the one kept, which is then the same. */
+static int keep_store(void)
 {
-    return SDS_NUMBER(reply) == 0 && SDS_COUNT(reply) == 1 && record[1] >> 5 == WRITES;
+    int altered = 0;
+    for (uint32_t i = 0; i < sizeof store; i++) {
+        altered |= kept[i] != store[i];
+        kept[i] = store[i];
+    }
+    return altered;
 }
 
 static void serve(const uint8_t record[SDS_RECORD])
 {
-    uint32_t reply = sds_step(record, SDS_RECORD, ADDRESS, table, sizeof table, store, sizeof store, work, sizeof work, out, sizeof out);
-    if (is_written(record, reply))
+    uint32_t reply = sds_device_step(&device, record, SDS_RECORD);
+    if (keep_store())
         store_changed(store, sizeof store);
     for (uint32_t i = 0; i < SDS_COUNT(reply); i++)
         mailbox_send(out + SDS_RECORD * i);
 }
 
+/* a cleared work area, as at the start */
+static void drop_half_joined(void)
+{
+    for (uint32_t i = 0; i < sizeof work; i++)
+        work[i] = 0;
+}
+
 int main(void)
 {
     uint8_t record[SDS_RECORD];
-    if (sds_table_check(table, sizeof table, sizeof store) != 0)
+    if (sds_table_check(table, sizeof table, sizeof store) != SDS_SERVED)
         halt(); /* rather than be a device that answers nothing */
     store_open(store, sizeof store);
+    keep_store();
     mailbox_open();
     for (;;)
-        if (mailbox_receive(record))
-            serve(record);
+        switch (mailbox_receive(record)) {
+        case MAILBOX_FRAME: serve(record); break;
+        case MAILBOX_LOST: drop_half_joined(); break;
+        case MAILBOX_EMPTY: break;
+        }
 }

@@ -1,12 +1,11 @@
 /*
- * mailbox.h: the CAN controller, as the device sees it. A port fills in the three functions from its chip's registers; the shorthands
- * below carry an 11-bit identifier, RTR, DLC and data to a record of sds.h and back.
+ * mailbox.h: the CAN controller, as the device sees it. A port fills in the three functions from its chip's registers; sds_can.h carries
+ * identifier, RTR, DLC and data to a record and back.
  */
 #ifndef MAILBOX_H
 #define MAILBOX_H
 
-#include <stdint.h>
-#include "sds.h"
+#include "sds_can.h"
 
 /*
  * Starts the controller. Of the bus the device needs only frames to its own address: an acceptance filter of mask 7F8 hex, identifier
@@ -14,42 +13,32 @@
  */
 void mailbox_open(void);
 
+enum mailbox { MAILBOX_EMPTY, MAILBOX_FRAME, MAILBOX_LOST };
+
 /*
- * Gives 1 and the oldest frame that has come, or 0 and leaves the record alone where none has. It need not wait, and may: the device has
- * nothing else to do, so this is the place to sleep until an interrupt (WFI).
+ * Gives MAILBOX_FRAME and the oldest frame that has come. Where none has, gives MAILBOX_EMPTY and leaves the record alone; it need not wait,
+ * and may: the device has nothing else to do, so this is the place to sleep until an interrupt (WFI). Leave out frames with 29-bit
+ * identifiers: they have no record. Never put a record together from two frames.
  *
- * Frames go on coming while the device sends, up to 64 answers in a row. They wait in the controller's FIFO, or in a ring that the
- * receive interrupt fills. Where that is full a frame is lost, whichever; but never put a record together from two frames. The host
- * notices: a lost Read or Write is not answered, and a fragment behind a lost one is answered with an Error, upon which the host begins
- * at fragment 0 again. Leave out frames with 29-bit identifiers: they have no record.
+ * Frames go on coming while the device sends, up to SDS_FRAMES answers in a row. They wait in the controller's FIFO, or in a ring that the
+ * receive interrupt fills. Where that is full, and while the controller is off the bus, frames get lost. Give MAILBOX_LOST then, once, behind
+ * the last frame that came before the loss and before the first that came after it. A chip that only has a flag for it does not say where in
+ * the queue that is: look at the flag after you have taken a frame, and if it is set, reset it, throw that frame and all that wait away, and
+ * give MAILBOX_LOST.
+ *
+ * It matters because a fragment does not say which message it is of. If one message loses its fragments 4 to 7 and the next to the same
+ * attribute its 0 to 3, what is left are fragments 0 to 7, which are joined, written and acknowledged: a value that nobody sent. Upon
+ * MAILBOX_LOST the device drops all that is half joined, so fragments behind a loss are answered with an Error until a number 0 comes, and the
+ * host begins anew. A lost Read or whole Write is not answered, and the host repeats it. Frames that are lost before they reach the bus are
+ * the sender's: it must not send the rest of a message whose number 0 it has dropped.
  */
-int mailbox_receive(uint8_t record[SDS_RECORD]);
+enum mailbox mailbox_receive(uint8_t record[SDS_RECORD]);
 
 /*
  * Sends a frame, after those before it: give them to one transmit mailbox, or to a FIFO, but not to several mailboxes that the controller
- * empties in the order of identifiers (the answers to one request have the same). Waits while there is no room. Where the bus is off or
- * the frame is not taken in reasonable time, give up and return: the host repeats what is not answered.
+ * empties in the order of identifiers (the answers to one request have the same). RTR is 0, and the DLC 2 to 8. Waits while there is no room.
+ * Where the bus is off or the frame is not taken in reasonable time, give up and return: the host repeats what is not answered.
  */
 void mailbox_send(const uint8_t record[SDS_RECORD]);
-
-/* The record of a received frame. A DLC above 8 is passed on as it is: the device refuses it. */
-static inline void mailbox_record(uint8_t record[SDS_RECORD], uint32_t identifier, uint32_t rtr, uint32_t dlc, const uint8_t data[8])
-{
-    record[0] = (uint8_t)(identifier >> 3);
-    record[1] = (uint8_t)((identifier & 7) << 5 | (rtr & 1) << 4 | (dlc & 15));
-    for (uint32_t i = 0; i < 8; i++)
-        record[2 + i] = rtr || i >= dlc ? 0 : data[i];
-}
-
-/* Of a record to send: identifier and DLC (2 to 8). Its data begins at record + 2, and RTR is 0. */
-static inline uint32_t mailbox_identifier(const uint8_t record[SDS_RECORD])
-{
-    return (uint32_t)record[0] << 3 | record[1] >> 5;
-}
-
-static inline uint32_t mailbox_dlc(const uint8_t record[SDS_RECORD])
-{
-    return record[1] & 15;
-}
 
 #endif

@@ -1,5 +1,5 @@
 # Sourced by hosts/mcu/build and tests/mcu/run after tools/machine.sh, from the top of the repository: how the module of the proved library
-# and C files become code for a Cortex-M. ARCH is v7m (M3, M4, M7) or v6m (M0, M0+).
+# and C files become code for a Cortex-M. ARCH is v7m (M3, M4, M7) or v6m (M0, M0+). Installs Debian's llvm where it is missing.
 
 mcu=target/mcu
 clang=$tools/bin/clang

@@ -10,7 +10,7 @@
 /* Once, before the first frame: puts back what was kept. The store is all 0 before. */
 void store_open(uint8_t *store, uint32_t length);
 
-/* After each Write that is served, whole or by its last fragment, and before its answer: a host that sees it may cut the current. */
+/* After each frame that has altered the store, and before its answer: a host that sees the answer may cut the current. */
 void store_changed(const uint8_t *store, uint32_t length);
 
 #endif

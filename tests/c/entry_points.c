@@ -1,14 +1,17 @@
-/* Calls all five entry points of the archive and checks the cases that the scope page marks P, with every byte of every lent buffer. */
+/*
+ * Calls all five entry points of the archive and checks the cases that the scope page marks P, with every byte of every lent buffer. Then what
+ * the headers add to them: structs, and records of CAN frames.
+ */
 #include <stdio.h>
 #include <string.h>
-#include "sds.h"
+#include "sds_can.h"
 
-static const uint8_t table[32] = {
-    2, 0x12, 5, 1, 0x00, 0, 0x00, 1, 2, 0x38, 7, 32, 0x01, 0, 0x3F, 7,
-    3, 0x0A, 3, 2, 0x21, 0, 0x00, 0, 3, 0x38, 7, 32, 0x23, 0, 0x3F, 7,
+enum { STORE = 67 };
+static const uint8_t table[] = {
+#include "sample_table.h"
 };
-static uint8_t store[67], work[SDS_WORK], out[SDS_OUT];             /* lent */
-static uint8_t store_is[67], work_is[SDS_WORK], out_is[SDS_OUT];    /* what they are to hold */
+static uint8_t store[STORE], work[SDS_WORK], out[SDS_OUT];             /* lent */
+static uint8_t store_is[STORE], work_is[SDS_WORK], out_is[SDS_OUT];    /* what they are to hold */
 static int failed;
 
 static void check(const char *name, int holds)
@@ -18,18 +21,20 @@ static void check(const char *name, int holds)
 }
 
 /* the record, its number, and the error or success frame that answers it (response 0: none) */
-static void step(const char *name, uint32_t number, uint8_t response, const uint8_t record[10])
+static void step(const char *name, uint32_t number, uint8_t response, const uint8_t record[SDS_RECORD])
 {
     uint32_t count = response != 0;
     if (count) {
-        const uint8_t frame[10] = {0x89, 0x82, (uint8_t)(response << 6 | (record[2] & 31)), record[3]};
-        memcpy(out_is, frame, 10);
+        const uint8_t frame[SDS_RECORD] = {0x89, 0x82, (uint8_t)(response << 6 | (record[2] & 31)), record[3]};
+        memcpy(out_is, frame, sizeof frame);
     }
-    uint32_t reply = sds_step(record, 10, 9, table, sizeof table, store, sizeof store, work, sizeof work, out, sizeof out);
-    check(name, reply == number + 256 * count && !memcmp(store, store_is, sizeof store) && !memcmp(work, work_is, sizeof work) && !memcmp(out, out_is, sizeof out));
+    const struct sds_device device = {9, {table, sizeof table}, {store, sizeof store}, {work, sizeof work}, {out, sizeof out}};
+    uint32_t reply = sds_device_step(&device, record, SDS_RECORD);
+    check(name, SDS_NUMBER(reply) == number && SDS_COUNT(reply) == count && !memcmp(store, store_is, sizeof store) &&
+                    !memcmp(work, work_is, sizeof work) && !memcmp(out, out_is, sizeof out));
 }
 
-#define RECORD(...) ((const uint8_t[10]){__VA_ARGS__})
+#define RECORD(...) ((const uint8_t[SDS_RECORD]){__VA_ARGS__})
 
 static void steps(void)
 {
@@ -46,9 +51,9 @@ static void steps(void)
     step("P9", 12, 2, RECORD(0x09, 0x87, 0x22, 56, 7, 32, 1, 2, 3));
     step("P10", 12, 2, RECORD(0x09, 0x88, 0x22, 56, 8, 32, 1, 2, 3, 4));
     step("P11", 11, 2, RECORD(0x09, 0x88, 0x22, 56, 0, 31, 1, 2, 3, 4));
-    memcpy(work_is + 520, RECORD(1, 56, 32, 1, 'A', 'B', 'C', 'D'), 8);
+    memcpy(work_is + 2 * SDS_WORK_RECORD, (const uint8_t[]){1, 56, 32, 1, 'A', 'B', 'C', 'D'}, 8);
     step("P8, number 0", 0, 0, RECORD(0x09, 0x88, 0x22, 56, 0, 32, 'A', 'B', 'C', 'D'));
-    work_is[520] = 0;
+    work_is[2 * SDS_WORK_RECORD] = 0;
     step("P8, number 2", 14, 2, RECORD(0x09, 0x88, 0x22, 56, 2, 32, 'E', 'F', 'G', 'H'));
 }
 
@@ -65,17 +70,56 @@ static void messages(void)
 {
     const uint8_t *record = RECORD(0x09, 0x84, 3, 10, 0x2C, 0x01, 0xEE, 0xEE, 0xEE, 0xEE);
     const uint8_t expected[SDS_MESSAGE] = {1, 0, 9, 4, 0, 3, 10, 0, 0, 2, 0x2C, 0x01};
-    uint8_t message[SDS_MESSAGE], back[10];
-    check("read", sds_read(record, 10, message, sizeof message) == 0 && !memcmp(message, expected, sizeof message));
-    check("written", sds_write(message, sizeof message, back, 10) == 0 && !memcmp(back, RECORD(0x09, 0x84, 3, 10, 0x2C, 0x01), 10));
-    check("refused", sds_read(record, 9, message, sizeof message) == 1 && sds_write(message, 15, back, 10) == 1 && (message[0] = 3, sds_write(message, sizeof message, back, 10) == 3));
+    uint8_t message[SDS_MESSAGE], back[SDS_RECORD];
+    check("read", sds_read(record, SDS_RECORD, message, sizeof message) == 0 && !memcmp(message, expected, sizeof message));
+    check("written", sds_write(message, sizeof message, back, sizeof back) == 0 && !memcmp(back, RECORD(0x09, 0x84, 3, 10, 0x2C, 0x01), sizeof back));
+    check("refused", sds_read(record, SDS_RECORD - 1, message, sizeof message) == 1 && sds_write(message, sizeof message - 1, back, sizeof back) == 1);
+    message[0] = 3;
+    check("no such kind", sds_write(message, sizeof message, back, sizeof back) == 3);
+}
+
+/* the fields of the structs are where the bytes are, in a record that uses each of them */
+static void fields(void)
+{
+    const uint8_t *record = RECORD(0x89, 0xA7, 0x63, 56, 7, 31, 'A', 'B', 'C');
+    struct sds_message m;
+    uint8_t back[SDS_RECORD];
+    check("message", sds_message_read(record, &m) == 0 && m.kind == SDS_KIND_FRAGMENT && m.from_guest == 1 && m.address == 9 &&
+                         m.service == SDS_SERVICE_READ && m.response == SDS_SUCCESSFUL && m.object == 3 && m.id == 56 && m.number == 7 &&
+                         m.total == 31 && m.length == 3 && !memcmp(m.data, "ABC\0\0", sizeof m.data));
+    check("message back", sds_message_write(&m, back) == 0 && !memcmp(back, record, sizeof back));
+    const struct sds_attribute *tag = (const struct sds_attribute *)table + 3;
+    check("attribute", tag->object == 3 && tag->id == 56 && tag->access == (SDS_ACCESS_READ | SDS_ACCESS_WRITE | SDS_ACCESS_NETWORK) &&
+                           tag->length == 32 && tag->offset[0] == 35 && tag->offset[1] == 0 && tag->descriptor[0] == 0x3F && tag->descriptor[1] == 0x07);
+}
+
+/* a CAN frame and its record; a DLC over 8 has eight data bytes, RTR none */
+static void frame(const char *name, uint32_t rtr, uint32_t dlc, const uint8_t expected[SDS_RECORD])
+{
+    uint8_t record[SDS_RECORD];
+    sds_can_record(record, 0x04D, rtr, dlc, (const uint8_t[SDS_CAN_DATA]){1, 2, 3, 4, 5, 6, 7, 8});
+    check(name, !memcmp(record, expected, sizeof record) && sds_can_identifier(record) == 0x04D && sds_can_rtr(record) == (rtr != 0) &&
+                    sds_can_dlc(record) == dlc && sds_can_data(record) == record + 2);
+}
+
+static void frames(void)
+{
+    frame("frame, DLC 0", 0, 0, RECORD(0x09, 0xA0));
+    frame("frame, DLC 3", 0, 3, RECORD(0x09, 0xA3, 1, 2, 3));
+    frame("frame, DLC 8", 0, 8, RECORD(0x09, 0xA8, 1, 2, 3, 4, 5, 6, 7, 8));
+    frame("frame, DLC 15", 0, 15, RECORD(0x09, 0xAF, 1, 2, 3, 4, 5, 6, 7, 8));
+    frame("frame, RTR", 1, 8, RECORD(0x09, 0xB8));
+    frame("frame, RTR as a flag of its own", 0x40000000, 3, RECORD(0x09, 0xB3));
 }
 
 int main(void)
 {
-    check("table", sds_table_check(table, sizeof table, 67) == 0 && sds_table_check(table, 31, 67) == 1 && sds_table_check(table, sizeof table, 66) == 2);
+    check("table", sds_table_check(table, sizeof table, STORE) == 0 && sds_table_check(table, sizeof table - 1, STORE) == 1 &&
+                       sds_table_check(table, sizeof table, STORE - 1) == 2);
     steps();
     sizes();
     messages();
+    fields();
+    frames();
     return failed;
 }

@@ -1,9 +1,10 @@
 /*
- * Plays cases from standard input into sds_step and prints a line for each. After each frame the number, the count and every byte of store, work
+ * Plays cases from standard input into the device and prints a line for each. After each frame the number, the count and every byte of store, work
  * area and output are compared, those behind their ends too; so are table and record, which must not alter. The status is 0 if nothing differs.
  *
  * A case is rows of text. Numbers are decimal, bytes two hex digits each.
- *   case NAME         a new case: the scope page's sample device with 67 bytes of store, 8,320 of work area and 650 of output, each of them 5A
+ *   case NAME         a new case: the scope page's sample device with 67 bytes of store, a work area, and an output with room for a frame more than
+ *                     the most, each byte of them 5A
  *   address N         the own address
  *   Store N B         a store of N bytes, each of them B; Table, Work and Output go the same way
  *   store P B B ..    these bytes, from place P of the store on; table, work and output go the same way
@@ -93,7 +94,9 @@ static void end_case(void)
 
 static void begin_case(const char *name)
 {
-    static const uint8_t sample[] = {2, 0x12, 5, 1, 0, 0, 0, 1, 2, 0x38, 7, 32, 1, 0, 0x3F, 7, 3, 0x0A, 3, 2, 0x21, 0, 0, 0, 3, 0x38, 7, 32, 0x23, 0, 0x3F, 7};
+    static const uint8_t sample[] = {
+#include "sample_table.h"
+    };
     end_case();
     printf("%s", name);
     cases++, frames_here = failed_here = 0, own = 9;
@@ -111,8 +114,14 @@ static void differs(const char *what)
 
 static void send(unsigned long wanted_number, unsigned long wanted_count)
 {
-    uint32_t reply = sds_step(record.lent, record.length, own, table.lent, table.length, store.lent, store.length,
-                              work.lent, work.length, output.lent, output.length);
+    const struct sds_device device = {
+        .address = own,
+        .table = {table.lent, table.length},
+        .store = {store.lent, store.length},
+        .work = {work.lent, work.length},
+        .out = {output.lent, output.length},
+    };
+    uint32_t reply = sds_device_step(&device, record.lent, record.length);
     frames++, frames_here++, awaited = 0;
     if (SDS_NUMBER(reply) != wanted_number)
         differs("the number");

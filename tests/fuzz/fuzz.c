@@ -6,8 +6,8 @@
  *            bit 7: the offsets of the table are set right, so that well-formed tables are found
  *     2      the wrong length's difference, signed
  *     3      r, records of the table (mod 32)
- *     4, 5   the store's length (mod 32,784), low byte first
- *     6..    8 r bytes of table, then frames of ten bytes; a rest is a record of that length
+ *     4, 5   the store's length (mod SDS_STORE_MOST + STORE_OVER), low byte first
+ *     6..    r records of the table, then records of frames; a rest is a record of that length
  *
  * Each frame goes to the core and to the reference. Results and all buffers must be equal afterwards; each buffer ends where an unreadable page begins and
  * stands behind guard bytes, so that a byte read or written outside one shows.
@@ -19,7 +19,7 @@
 #include "reference.h"
 #include "sds.h"
 
-enum { FRONT = 6, GUARD = 64, GUARD_BYTE = 0x5A, ROOM = 1 << 16 };
+enum { FRONT = 6, STORE_OVER = 16, GUARD = 64, GUARD_BYTE = 0x5A, ROOM = 1 << 16 };
 enum length { RIGHT, RECORD, TABLE, STORE, WORK, OUT, MESSAGE, LENGTHS };
 enum knob { WRONG_LENGTH = 7, WORK_GARBAGE = 0x40, RIGHT_OFFSETS = 0x80 };
 enum side { CORE, REFERENCE, SIDES };
@@ -75,8 +75,14 @@ static void same_everywhere(void)
 static void step_both(uint32_t own)
 {
     const size_t *n = lengths;
-    uint32_t ours = sds_step(lent(CORE, RECORD), n[RECORD], own, lent(CORE, TABLE), n[TABLE], lent(CORE, STORE), n[STORE], lent(CORE, WORK), n[WORK],
-                             lent(CORE, OUT), n[OUT]);
+    const struct sds_device core = {
+        .address = own,
+        .table = {lent(CORE, TABLE), n[TABLE]},
+        .store = {lent(CORE, STORE), n[STORE]},
+        .work = {lent(CORE, WORK), n[WORK]},
+        .out = {lent(CORE, OUT), n[OUT]},
+    };
+    uint32_t ours = sds_device_step(&core, lent(CORE, RECORD), n[RECORD]);
     uint32_t theirs = ref_step(lent(REFERENCE, RECORD), n[RECORD], own, lent(REFERENCE, TABLE), n[TABLE], lent(REFERENCE, STORE), n[STORE],
                                lent(REFERENCE, WORK), n[WORK], lent(REFERENCE, OUT), n[OUT]);
     must_be(ours == theirs, "the reply of sds_step");
@@ -99,11 +105,11 @@ static void codec_both(void)
 }
 
 /* offsets that follow one another, so that only the rest of a table is for the fuzzer to find */
-static void set_offsets(uint8_t *table, size_t length)
+static void set_offsets(struct sds_attribute *records, size_t count)
 {
-    for (size_t at = 0, end = 0; at + 8 <= length; end += table[at + 3], at += 8) {
-        table[at + 4] = (uint8_t)end;
-        table[at + 5] = (uint8_t)(end >> 8);
+    for (size_t i = 0, end = 0; i < count; end += records[i].length, i++) {
+        records[i].offset[0] = (uint8_t)end;
+        records[i].offset[1] = (uint8_t)(end >> 8);
     }
 }
 
@@ -135,16 +141,16 @@ int LLVMFuzzerInitialize(int *argc, char ***argv)
 static void start_work_records(const uint8_t *bytes, size_t count)
 {
     for (enum side side = CORE; side < SIDES; side++)
-        for (size_t at = 0; at + count <= lengths[WORK]; at += 260)
+        for (size_t at = 0; at + count <= lengths[WORK]; at += SDS_WORK_RECORD)
             memcpy(lent(side, WORK) + at, bytes, count);
 }
 
 static void lend_all(const uint8_t *front, const uint8_t *table, size_t table_size, const uint8_t *frames, size_t size)
 {
-    size_t store_size = (front[4] | (size_t)front[5] << 8) % (32768 + 16);
+    size_t store_size = (front[4] | (size_t)front[5] << 8) % (SDS_STORE_MOST + STORE_OVER);
     lend(TABLE, length_of(TABLE, table_size, front), table, table_size);
     for (enum side side = CORE; side < SIDES && front[1] & RIGHT_OFFSETS; side++)
-        set_offsets(lent(side, TABLE), lengths[TABLE]);
+        set_offsets((struct sds_attribute *)lent(side, TABLE), lengths[TABLE] / SDS_TABLE_RECORD);
     lend(STORE, length_of(STORE, store_size, front), front, 0);
     lend(WORK, length_of(WORK, SDS_WORK, front), front, 0);
     if (front[1] & WORK_GARBAGE)
@@ -155,9 +161,9 @@ static void lend_all(const uint8_t *front, const uint8_t *table, size_t table_si
 
 int LLVMFuzzerTestOneInput(const uint8_t *input, size_t size)
 {
-    if (size < FRONT || size - FRONT < 8u * (input[3] % 32))
+    if (size < FRONT || size - FRONT < SDS_TABLE_RECORD * (input[3] % 32u))
         return 0;
-    size_t table_size = 8u * (input[3] % 32), at = FRONT + table_size;
+    size_t table_size = SDS_TABLE_RECORD * (input[3] % 32u), at = FRONT + table_size;
     lend_all(input, input + FRONT, table_size, input + at, size - at);
     must_be(sds_table_check(lent(CORE, TABLE), lengths[TABLE], lengths[STORE]) == ref_table_check(lent(CORE, TABLE), lengths[TABLE], lengths[STORE]),
             "the result of sds_table_check");

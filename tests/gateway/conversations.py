@@ -17,7 +17,8 @@ from link import (ACTION, CAN_FRAME, EMULATOR, ERROR, ERROR_FLAG, EXPLAIN, EXTEN
 
 HERE = os.path.dirname(os.path.abspath(__file__))
 SCRATCH = tempfile.mkdtemp(prefix="sds-gateway-")
-SAMPLE = bytes.fromhex("0212050100000001" "0238072001003F07" "030A030221000000" "0338072023003F07")  # 01, "Sample device"
+with open("captures/sample.table", "rb") as file:
+    SAMPLE = file.read()  # 01, "Sample device"
 NORTH, SOUTH = b"North conveyor, gate, sensor no1", b"South conveyor, gate, sensor no2"
 NINE = Host(9)
 
@@ -467,7 +468,9 @@ def odd_frames():
     for message in odd:
         gateway.peer.link.send(message)
         gateway.peer.converse((NINE.read(3, 10), NINE.value(3, 10, bytes(2))))
-    lines = [line for line in gateway.hang_up().splitlines() if line.startswith(("dropped", "  refused"))]
+    traced = gateway.hang_up().splitlines()
+    expect("the data of a remote frame", [line[:40] for line in traced if line.startswith("unreadable 09 94")], ["unreadable 09 94 00 00 00 00 00 00 00 00"])
+    lines = [line for line in traced if line.startswith(("dropped", "  refused"))]
     expect("the trace", lines, ["dropped: an extended frame", *["dropped: an error frame"] * 2,
                                 *["  refused 3: RTR, a DLC over 8, or address 126 or 127"] * 10,
                                 *["dropped: a frame with a length over 15"] * 6, *["dropped: a message of another size than a frame"] * 8])

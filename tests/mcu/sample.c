@@ -1,15 +1,26 @@
 /*
  * sample.c: the sample device on the archive for x86-64, with the files of the emulated boards in the working directory: `frames` in,
- * `answers` out, `store` both.
+ * `answers` out, `store` both. Ten bytes FF among the frames stand for lost ones, upon which the work area is cleared.
  */
 #include <stdio.h>
 #include <stdlib.h>
+#include <string.h>
 #include "sds.h"
 
-static const uint8_t table[] = "\x02\x12\x05\x01\x00\x00\x00\x01" "\x02\x38\x07\x20\x01\x00\x3F\x07"
-                               "\x03\x0A\x03\x02\x21\x00\x00\x00" "\x03\x38\x07\x20\x23\x00\x3F\x07";
+static const uint8_t table[] = {
+#include "sample_table.h"
+};
+static const uint8_t loss[SDS_RECORD] = {0xFF, 0xFF, 0xFF, 0xFF, 0xFF, 0xFF, 0xFF, 0xFF, 0xFF, 0xFF};
 
 static uint8_t store[67], work[SDS_WORK], out[SDS_OUT];
+
+static const struct sds_device device = {
+    .address = 9,
+    .table = {table, sizeof table},
+    .store = {store, sizeof store},
+    .work = {work, sizeof work},
+    .out = {out, sizeof out},
+};
 
 static FILE *opened(const char *name, const char *mode)
 {
@@ -21,6 +32,13 @@ static FILE *opened(const char *name, const char *mode)
     return file;
 }
 
+static void serve(const uint8_t record[SDS_RECORD], FILE *answers)
+{
+    uint32_t reply = sds_device_step(&device, record, SDS_RECORD);
+    if (fwrite(out, SDS_RECORD, SDS_COUNT(reply), answers) != SDS_COUNT(reply))
+        exit(EXIT_FAILURE);
+}
+
 int main(void)
 {
     uint8_t record[SDS_RECORD];
@@ -28,9 +46,10 @@ int main(void)
     if (fread(store, 1, sizeof store, kept) == 0)
         rewind(kept); /* a new device */
     while (fread(record, SDS_RECORD, 1, frames) == 1) {
-        uint32_t reply = sds_step(record, SDS_RECORD, 9, table, 32, store, sizeof store, work, SDS_WORK, out, SDS_OUT);
-        if (fwrite(out, SDS_RECORD, SDS_COUNT(reply), answers) != SDS_COUNT(reply))
-            return EXIT_FAILURE;
+        if (memcmp(record, loss, SDS_RECORD) == 0)
+            memset(work, 0, sizeof work);
+        else
+            serve(record, answers);
     }
     kept = freopen("store", "wb", kept);
     return kept && fwrite(store, sizeof store, 1, kept) == 1 && fclose(kept) == 0 && fclose(answers) == 0 ? EXIT_SUCCESS : EXIT_FAILURE;

@@ -1,4 +1,7 @@
-/* SDS guest core, reference in C11. 01 is the scope page, 000 the application layer, 001 the component models. */
+/*
+ * SDS guest core, reference in C11. 01 is the scope page, 000 the application layer, 001 the component models. It is written from these papers and
+ * shares nothing with the core, but for one decision where they leave a choice: Unsigned is type 4 (docs/DECISIONS.md).
+ */
 #include "reference.h"
 
 #include <string.h>

@@ -53,12 +53,13 @@ static void count(unsigned tally, unsigned place)
 
 static enum served served_as(const uint8_t *frame, uint32_t answers)
 {
-    enum { READ_SERVICE = 5, FLAG = 0x20 };
-    if (frame[1] >> 5 == READ_SERVICE)
+    struct sds_message request;
+    sds_message_read(frame, &request);
+    if (request.service == SDS_SERVICE_READ)
         return answers > 1 ? READ_IN_FRAGMENTS : READ_PLAIN;
-    if (!(frame[2] & FLAG))
+    if (request.kind == SDS_KIND_WHOLE)
         return WRITTEN_WHOLE;
-    return answers == 0 ? KEPT : frame[4] ? COMPLETED : COMPLETED_ALONE;
+    return answers == 0 ? KEPT : request.number ? COMPLETED : COMPLETED_ALONE;
 }
 
 static void count_step(uint32_t reply)
@@ -66,13 +67,13 @@ static void count_step(uint32_t reply)
     count(BY_NUMBER, SDS_NUMBER(reply));
     count(BY_FRAME, stream.call.frame);
     count(BY_DISTURBANCE, stream.call.disturbance);
-    if (SDS_NUMBER(reply) == 0)
+    if (SDS_NUMBER(reply) == SDS_SERVED)
         count(BY_SERVED, served_as(record, SDS_COUNT(reply)));
 }
 
 static void count_call(uint32_t result)
 {
-    const uint8_t places_of_refusals[9] = {0, 3, 0, 4, 0, 5, 0, 0, 6};
+    static const uint8_t places_of_refusals[] = {[SDS_BAD_LENGTH] = 3, [SDS_BAD_FRAME] = 4, [SDS_BAD_SERVICE] = 5, [SDS_BAD_FORM] = 6};
     count(BY_ENTRY, stream.call.entry);
     switch (stream.call.entry) {
     case STEP: count_step(result); break;

@@ -53,19 +53,29 @@ static uint32_t any_descriptor(struct stream *s, uint32_t *length)
     }
 }
 
+static struct sds_attribute *attribute_at(struct stream *s, uint32_t place)
+{
+    return (struct sds_attribute *)(s->areas.table + SDS_TABLE_RECORD * place);
+}
+
 /* one record of a table, at this offset; gives the attribute's length */
-static uint32_t put_record(struct stream *s, uint8_t *record, uint32_t object, uint32_t id, uint32_t offset)
+static uint32_t put_record(struct stream *s, struct sds_attribute *record, uint32_t object, uint32_t id, uint32_t offset)
 {
     static const uint8_t usual[8] = {1, 2, 4, 6, 7, 8, 32, 255};
     uint32_t length = one_in(s, 2) ? usual[below(s, 8)] : 1 + below(s, 255);
-    uint32_t access = one_in(s, 4) ? below(s, 4) : 3, descriptor = 0;
+    uint32_t access = one_in(s, 4) ? below(s, 4) : SDS_ACCESS_READ | SDS_ACCESS_WRITE, descriptor = 0;
     if (one_in(s, 2)) {
         descriptor = any_descriptor(s, &length);
-        access |= 4;
+        access |= SDS_ACCESS_NETWORK;
     }
-    const uint8_t bytes[8] = {(uint8_t)object, (uint8_t)id, (uint8_t)access, (uint8_t)length, (uint8_t)offset, (uint8_t)(offset >> 8),
-                              (uint8_t)descriptor, (uint8_t)(descriptor >> 8)};
-    memcpy(record, bytes, 8);
+    *record = (struct sds_attribute){
+        .object = (uint8_t)object,
+        .id = (uint8_t)id,
+        .access = (uint8_t)access,
+        .length = (uint8_t)length,
+        .offset = {(uint8_t)offset, (uint8_t)(offset >> 8)},
+        .descriptor = {(uint8_t)descriptor, (uint8_t)(descriptor >> 8)},
+    };
     return length;
 }
 
@@ -83,9 +93,9 @@ static uint32_t any_count(struct stream *s)
 static uint32_t put_table(struct stream *s)
 {
     uint32_t count = any_count(s), object = below(s, 4), id = below(s, 32), end = 0, i = 0;
-    uint32_t stay = count > 32 ? 64 : 2; /* so that many records get a place among 32 objects */
-    for (; i < count && object < 32; i++) {
-        uint32_t length = put_record(s, s->areas.table + 8 * i, object, id, end);
+    uint32_t stay = count > SDS_OBJECTS ? 64 : 2; /* so that many records get a place among the objects */
+    for (; i < count && object < SDS_OBJECTS; i++) {
+        uint32_t length = put_record(s, attribute_at(s, i), object, id, end);
         if (end + length > STREAM_STORE)
             break;
         end += length;
@@ -95,15 +105,15 @@ static uint32_t put_table(struct stream *s)
             id = below(s, 32);
         }
     }
-    s->device.table_len = 8 * i;
+    s->device.table_len = SDS_TABLE_RECORD * i;
     return end;
 }
 
 /* garbage, in which many a record waits for some fragment */
 static void waiting_garbage(struct stream *s)
 {
-    for (uint32_t object = 0; object < 32; object++) {
-        uint8_t *record = s->areas.work + 260 * object;
+    for (uint32_t object = 0; object < SDS_OBJECTS; object++) {
+        uint8_t *record = s->areas.work + SDS_WORK_RECORD * object;
         record[0] = (uint8_t)below(s, 3);
         record[3] = (uint8_t)below(s, 10);
     }
@@ -116,7 +126,7 @@ static void new_scene(struct stream *s)
     memset(s->senders, 0, sizeof s->senders);
     uint32_t end = put_table(s), room = STREAM_STORE - end;
     s->device.store_len = end + (one_in(s, 3) ? below(s, room + 1) : 0);
-    s->device.own = below(s, 126);
+    s->device.own = below(s, SDS_ADDRESS_MOST + 1);
     s->device.record_len = SDS_RECORD;
     s->device.message_len = SDS_MESSAGE;
     s->device.work_len = SDS_WORK;
@@ -133,7 +143,7 @@ static void new_scene(struct stream *s)
 
 /* ---- a frame. What a form leaves unused stays the garbage that it was. */
 
-enum { WRITES = 4, READS = 5, FRAGMENT = 0x20 };
+enum { FLAG = 0x20 }; /* of a fragment */
 
 static void put_header(struct stream *s, uint32_t service, uint32_t dlc, uint32_t flag, uint32_t object, uint32_t id)
 {
@@ -144,25 +154,31 @@ static void put_header(struct stream *s, uint32_t service, uint32_t dlc, uint32_
     s->areas.record[3] = (uint8_t)id;
 }
 
-/* a request of an attribute of the table, for object and ID; a table without records has none */
-static const uint8_t *any_attribute(struct stream *s)
+/* how many records the scene's table has */
+static uint32_t records(const struct stream *s)
 {
-    static const uint8_t nobody[8] = {3, 10, 3, 32};
-    uint32_t count = s->device.table_len / 8;
-    return count ? s->areas.table + 8 * below(s, count) : nobody;
+    return s->device.table_len / SDS_TABLE_RECORD;
+}
+
+/* an attribute of the table that a request may be for; a table without records has none */
+static const struct sds_attribute *any_attribute(struct stream *s)
+{
+    static const struct sds_attribute nobody = {.object = 3, .id = 10, .access = SDS_ACCESS_READ | SDS_ACCESS_WRITE, .length = 32};
+    uint32_t count = records(s);
+    return count ? attribute_at(s, below(s, count)) : &nobody;
 }
 
 /* the next fragment of the message under way to an object, begun anew where there is none or where it is asked for */
 static void put_fragment(struct stream *s, int anew)
 {
-    const uint8_t *attribute = any_attribute(s);
-    struct sender *sender = &s->senders[attribute[0] & 31];
-    if (s->device.table_len && (anew || !sender->busy))
-        *sender = (struct sender){(uint16_t)((attribute - s->areas.table) / 8), 0, 1};
-    if (s->device.table_len)
-        attribute = s->areas.table + 8 * sender->place;
-    uint32_t total = attribute[3], rest = total - 4u * sender->next, count = rest < 4 ? rest : 4;
-    put_header(s, WRITES, 4 + count, FRAGMENT, attribute[0], attribute[1]);
+    const struct sds_attribute *attribute = any_attribute(s);
+    struct sender *sender = &s->senders[attribute->object % SDS_OBJECTS];
+    if (records(s) && (anew || !sender->busy))
+        *sender = (struct sender){(uint16_t)(attribute - attribute_at(s, 0)), 0, 1};
+    if (records(s))
+        attribute = attribute_at(s, sender->place);
+    uint32_t total = attribute->length, rest = total - 4u * sender->next, count = rest < 4 ? rest : 4;
+    put_header(s, SDS_SERVICE_WRITE, 4 + count, FLAG, attribute->object, attribute->id);
     s->areas.record[4] = sender->next;
     s->areas.record[5] = (uint8_t)total;
     sender->next++;
@@ -173,16 +189,16 @@ static void put_fragment(struct stream *s, int anew)
 
 static void put_whole_write(struct stream *s)
 {
-    const uint8_t *attribute = any_attribute(s);
-    for (int tries = 0; attribute[3] > 6 && tries < 8; tries++)
+    const struct sds_attribute *attribute = any_attribute(s);
+    for (int tries = 0; attribute->length > 6 && tries < 8; tries++)
         attribute = any_attribute(s);
-    uint32_t length = one_in(s, 8) ? below(s, 7) : attribute[3] < 6 ? attribute[3] : 6;
-    put_header(s, WRITES, 2 + length, 0, attribute[0], attribute[1]);
+    uint32_t length = one_in(s, 8) ? below(s, 7) : attribute->length < 6 ? attribute->length : 6;
+    put_header(s, SDS_SERVICE_WRITE, 2 + length, 0, attribute->object, attribute->id);
 }
 
 static void put_stranger(struct stream *s)
 {
-    uint32_t service = below(s, 8), dlc = below(s, 9), flag = one_in(s, 2) ? FRAGMENT : 0, object = below(s, 32), id = below(s, 256);
+    uint32_t service = below(s, 8), dlc = below(s, 9), flag = one_in(s, 2) ? FLAG : 0, object = below(s, SDS_OBJECTS), id = below(s, 256);
     put_header(s, service, dlc, flag, object, id);
 }
 
@@ -202,8 +218,8 @@ static void put_frame(struct stream *s)
         put_whole_write(s);
         break;
     case PLAIN_READ: {
-        const uint8_t *attribute = any_attribute(s);
-        put_header(s, READS, 2, 0, attribute[0], attribute[1]);
+        const struct sds_attribute *attribute = any_attribute(s);
+        put_header(s, SDS_SERVICE_READ, 2, 0, attribute->object, attribute->id);
         break;
     }
     case STRANGER:
@@ -219,22 +235,24 @@ static void put_frame(struct stream *s)
 
 static void put_message(struct stream *s)
 {
-    uint8_t *m = s->areas.message;
-    memset(m, 0, SDS_MESSAGE);
-    m[0] = (uint8_t)below(s, 3);
-    m[1] = (uint8_t)below(s, 2);
-    m[2] = (uint8_t)below(s, 126);
-    m[3] = (uint8_t)below(s, 8);
-    if (m[0] == 0)
+    struct sds_message *m = (struct sds_message *)s->areas.message;
+    memset(m, 0, sizeof *m);
+    m->kind = (uint8_t)below(s, 3);
+    m->from_guest = (uint8_t)below(s, 2);
+    m->address = (uint8_t)below(s, SDS_ADDRESS_MOST + 1);
+    m->service = (uint8_t)below(s, 8);
+    if (m->kind == SDS_KIND_SHORT)
         return;
-    m[3] |= 4;
-    m[4] = (uint8_t)below(s, 4);
-    m[5] = (uint8_t)below(s, 32);
-    m[6] = (uint8_t)below(s, 256);
-    if (m[0] == 2)
-        fill(s, m + 7, 2);
-    m[9] = (uint8_t)below(s, m[0] == 2 ? 5 : 7);
-    fill(s, m + 10, m[9]);
+    m->service |= 4; /* one of the long form */
+    m->response = (uint8_t)below(s, 4);
+    m->object = (uint8_t)below(s, SDS_OBJECTS);
+    m->id = (uint8_t)below(s, 256);
+    if (m->kind == SDS_KIND_FRAGMENT) {
+        fill(s, &m->number, 1);
+        fill(s, &m->total, 1);
+    }
+    m->length = (uint8_t)below(s, m->kind == SDS_KIND_FRAGMENT ? 5 : 7);
+    fill(s, m->data, m->length);
 }
 
 /* ---- one disturbance */
@@ -249,10 +267,10 @@ static uint32_t other_length(struct stream *s, uint32_t right, uint32_t most)
 static uint32_t other_address(struct stream *s)
 {
     switch (below(s, 4)) {
-    case 0: return 126 + below(s, 2);
+    case 0: return SDS_ADDRESS_MOST + 1 + below(s, 2);
     case 1: return s->device.own + 256;
     case 2: return draw(s);
-    default: return below(s, 126);
+    default: return below(s, SDS_ADDRESS_MOST + 1);
     }
 }
 
@@ -267,7 +285,7 @@ static void disturb_bytes(struct stream *s)
     case OTHER_NUMBER: a->record[4] = (uint8_t)(a->record[4] + 4 - few); break;
     case OTHER_TOTAL: a->record[5] = (uint8_t)(a->record[5] + 4 - few); break;
     case MESSAGE_BYTE: a->message[place] = (uint8_t)(one_in(s, 2) ? any : few); break;
-    case WORK_BYTE: a->work[260 * (a->record[2] & 31u) + place % 4] = (uint8_t)few; break;
+    case WORK_BYTE: a->work[SDS_WORK_RECORD * (a->record[2] % SDS_OBJECTS) + place % 4] = (uint8_t)few; break;
     case TABLE_BYTE:
         s->damaged = table_len ? below(s, table_len) : 0;
         s->undamaged = a->table[s->damaged];
@@ -284,7 +302,7 @@ static void disturb(struct stream *s)
     switch (c->disturbance) {
     case RECORD_LENGTH: c->record_len = other_length(s, SDS_RECORD, SDS_RECORD); break;
     case MESSAGE_LENGTH: c->message_len = other_length(s, SDS_MESSAGE, SDS_MESSAGE); break;
-    case TABLE_LENGTH: c->table_len = other_length(s, c->table_len, one_in(s, 2) ? 8 * STREAM_RECORDS : c->table_len); break;
+    case TABLE_LENGTH: c->table_len = other_length(s, c->table_len, one_in(s, 2) ? SDS_TABLE_RECORD * STREAM_RECORDS : c->table_len); break;
     case STORE_LENGTH: c->store_len = other_length(s, c->store_len, one_in(s, 2) ? STREAM_STORE : c->store_len); break;
     case WORK_LENGTH: c->work_len = other_length(s, SDS_WORK, SDS_WORK); break;
     case OUT_LENGTH: c->out_len = below(s, SDS_OUT + STREAM_SLACK + 1); break;
@@ -357,6 +375,6 @@ uint32_t stream_hash(const struct stream *s, uint32_t hash, uint32_t result)
     hash = mix(hash, bytes, 4);
     hash = mix(hash, a->record, sizeof a->record);
     hash = mix(hash, a->message, sizeof a->message);
-    hash = mix(hash, a->out, 20);
+    hash = mix(hash, a->out, 2 * SDS_RECORD);
     return s->left % 32 ? hash : mix(hash, a, sizeof *a);
 }

@@ -15,15 +15,14 @@
 #ifndef STREAM_H
 #define STREAM_H
 
-#include <stdint.h>
 #include "sds.h"
 
 #ifdef STREAM_SMALL /* fits a part with 16 KiB of memory */
 #define STREAM_STORE 1024
 #define STREAM_RECORDS 64
 #else
-#define STREAM_STORE 32768
-#define STREAM_RECORDS 1024
+#define STREAM_STORE SDS_STORE_MOST
+#define STREAM_RECORDS SDS_ATTRIBUTES
 #endif
 
 /* Bytes behind each buffer. They let a length be too large, and no call may alter those beyond the length given. */
@@ -39,7 +38,7 @@ enum disturbance {
 struct areas {
     uint8_t record[SDS_RECORD + STREAM_SLACK];
     uint8_t message[SDS_MESSAGE + STREAM_SLACK];
-    uint8_t table[8 * STREAM_RECORDS + STREAM_SLACK];
+    uint8_t table[SDS_TABLE_RECORD * STREAM_RECORDS + STREAM_SLACK];
     uint8_t store[STREAM_STORE + STREAM_SLACK];
     uint8_t work[SDS_WORK + STREAM_SLACK];
     uint8_t out[SDS_OUT + STREAM_SLACK];
@@ -64,7 +63,7 @@ struct stream {
     struct areas areas;
     struct call call;
     struct call device; /* the scene's own address and lengths */
-    struct sender senders[32];
+    struct sender senders[SDS_OBJECTS];
     uint32_t left;      /* calls to come in this scene */
     uint32_t roughness; /* disturbed calls among 256 */
     uint32_t damaged;   /* a place of the table, and the byte that belongs there */
