@@ -6,7 +6,7 @@ use Rattle.answers.proofs.answering.acknowledge.Reads as acknowledge
 use Rattle.answers.proofs.answering.send_part.Reads as send-part
 
 pub refuse-determined : (κs : _) (args : _) (r r' : _) (s s' : _) → refuse.Post κs args r s → refuse.Post κs args r' s'
-    → now (s .1 .1 .0) ≡ now (s' .1 .1 .0)
+    → now (s .1 .1 .1 .0) ≡ now (s' .1 .1 .1 .0)
 refuse-determined κs args r r' s s' p q = p ∙ sym q
 
 pub refuse-asks-nothing : (κs : _) (args : _) → refuse.Asked κs args

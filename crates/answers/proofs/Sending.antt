@@ -13,27 +13,28 @@ use borrow.Author.Tests.{eq-eqb, leb-true, le-leb}
 use Rattle.laws.specs.Put.{put}
 use Rattle.laws.proofs.Put.{put-nothing, put-front, part-back}
 use Rattle.octets.specs.declared.Data.{Data}
-use Rattle.octets.specs.Data.{dataOf}
+use Rattle.octets.specs.Data.{mostData, dataOf, tidy}
 use Rattle.octets.proofs.Datas.{data-taken, tidy-data}
 use Rattle.codec.specs.declared.Header.{Header}
 use Rattle.codec.specs.declared.Message.the-variants.{Plain}
 use Rattle.codec.specs.declared.Subject.{Subject}
-use Rattle.codec.specs.Names.{successful, erroneous}
-use Rattle.codec.specs.Writing.{frameOf, imageOf}
+use Rattle.codec.specs.Names.{frameSize, mostAddress, mostFragmentData, lowestLong, successful, erroneous}
+use Rattle.codec.specs.Writing.{subjectFits, frameOf, imageOf}
 use Rattle.codec.specs.Code.{longPlaces, putLong}
 use Rattle.codec.proofs.Fits.{subject-fits}
 use Rattle.codec.proofs.Images.{places-are-image}
-use Rattle.guest.specs.Step.{answering, errorFrame, successFrame, fragmentFrame, fragmentFrames, readFrames, flat, sent}
+use Rattle.guest.specs.Checks.{leastOut, fragmentBytes}
+use Rattle.guest.specs.Step.{answering, errorFrame, successFrame, fragmentPart, fragmentFrame, fragmentFrames, readFrames, flat, sent}
 use Rattle.guest.proofs.Frames.{fragment-ten, fragments-ten, fragments-count, flat-length, answering-fits}
-use Rattle.answers.specs.Code.{Answerable, answerable, bare, partFits, partCount, partSent}
+use Rattle.answers.specs.Code.{Answerable, answerable, single, refusedWith, acknowledgedWith, partFits, partCount, partSent}
 
 -- a record of the output, lent to the codec: the places are put there
-pub put-there : (u : Subject) (flag : ℕ) (d : Data) (out : List ℕ) (at : ℕ) → at + 10 ≤ length out
-    → take at out ++ (putLong u flag d (take 10 (drop at out)) ++ drop 10 (drop at out)) ≡ put out at (longPlaces u flag d)
+pub put-there : (u : Subject) (flag : ℕ) (d : Data) (out : List ℕ) (at : ℕ) → at + frameSize ≤ length out
+    → take at out ++ (putLong u flag d (take frameSize (drop at out)) ++ drop frameSize (drop at out)) ≡ put out at (longPlaces u flag d)
 unfolding putLong longPlaces
 put-there u flag d out at h =
-    let n : length (take 10 (drop at out)) ≡ 10 = simp (length-take, length-drop) (omega arith) in
-    simp (eq-eqb (length (take 10 (drop at out))) 10 n) (part-back out (longPlaces u flag d) at 10 refl)
+    let n : length (take frameSize (drop at out)) ≡ frameSize = simp (length-take, length-drop) (omega arith) in
+    simp (eq-eqb (length (take frameSize (drop at out))) frameSize n) (part-back out (longPlaces u flag d) at frameSize refl)
 
 -- a frame that is put right behind the others
 pub put-next : (l m bs : List ℕ) (n : ℕ) → length l ≡ n → length bs ≤ length m → put (l ++ m) n bs ≡ (l ++ bs) ++ drop (length bs) m
@@ -46,46 +47,55 @@ flat-append (f ∷ fs) gs = ap (λ (l : List ℕ). f ++ l) (flat-append fs gs) �
 
 -- the output after the first n fragments, and one more of them
 pub fragments-none : (u : Subject) (bs out : List ℕ) → out ≡ sent (fragmentFrames u bs 0) out
-fragments-none u bs out = sym (put-nothing out)
+fragments-none u bs out = sym (put-nothing out 0)
 
-pub fragments-more : (u : Subject) (bs out : List ℕ) (n : ℕ) → (n + 1) * 10 ≤ length out
-    → put (sent (fragmentFrames u bs n) out) (n * 10) (fragmentFrame u bs n) ≡ sent (fragmentFrames u bs (n + 1)) out
+pub fragments-more : (u : Subject) (bs out : List ℕ) (n : ℕ) → (n + 1) * frameSize ≤ length out
+    → put (sent (fragmentFrames u bs n) out) (n * frameSize) (fragmentFrame u bs n) ≡ sent (fragmentFrames u bs (n + 1)) out
 fragments-more u bs out n h =
     let fs = fragmentFrames u bs n in
     let f = fragmentFrame u bs n in
-    let k : length (flat fs) ≡ n * 10 = flat-length fs (fragments-ten u bs n) ∙ omega (arith, fragments-count u bs n) in
+    let k : length (flat fs) ≡ n * frameSize = flat-length fs (fragments-ten u bs n) ∙ omega (arith, fragments-count u bs n) in
     let ten = fragment-ten u bs n in
     let all : flat (fragmentFrames u bs (n + 1)) ≡ flat fs ++ f =
     ap (λ (j : ℕ). flat (fragmentFrames u bs j)) (add-one n) ∙ flat-append fs (f ∷ []) ∙ ap (λ (l : List ℕ). flat fs ++ l) (append-nil f) in
-    rw (put-front out (flat fs), put-next (flat fs) (drop (length (flat fs)) out) f (n * 10) k (simp length-drop (omega arith)), drop-drop (length f) (length (flat fs)) out, ← length-append (flat fs) f)
+    rw (put-front out (flat fs), put-next (flat fs) (drop (length (flat fs)) out) f (n * frameSize) k (simp length-drop (omega arith)), drop-drop (length f) (length (flat fs)) out, ← length-append (flat fs) f)
     (sym (put-front out (flat (fragmentFrames u bs (n + 1))) ∙ rw all))
 
 pub sent-one : (f out : List ℕ) → sent (f ∷ []) out ≡ put out 0 f
 sent-one f out = ap (put out 0) (append-nil f)
 
--- the rest of a part, at most four bytes, as a slice gives it
-pub rest-cut : (bs : List ℕ) (n : ℕ) → length bs ≤ 4 * n + 4 → take 6 (take (length bs - 4 * n) (drop (4 * n) bs)) ≡ take 4 (drop (4 * n) bs)
-rest-cut bs n h =
-    let k : length (drop (4 * n) bs) ≡ length bs - 4 * n = length-drop (4 * n) bs in
-    rw (take-all (length bs - 4 * n) (drop (4 * n) bs) (omega arith))
-    (take-all 6 (drop (4 * n) bs) (omega arith) ∙ sym (take-all 4 (drop (4 * n) bs) (omega arith)))
+-- the data of a fragment has places in its frame
+pub part-tidy : (bs : List ℕ) (n : ℕ) → tidy mostFragmentData (dataOf (fragmentPart bs n)) ≡ true
+part-tidy bs n =
+    let most : length (fragmentPart bs n) ≤ fragmentBytes = rw length-take (omega arith) in
+    tidy-data (fragmentPart bs n) (omega arith) mostFragmentData most
 
--- four bytes of a part, place by place
-pub four-at : (bs : List ℕ) (n : ℕ) → 4 * n + 4 ≤ length bs
+-- the rest of a part, at most one fragment's, as a slice gives it
+pub rest-cut : (bs : List ℕ) (n : ℕ) → length bs ≤ fragmentBytes * n + fragmentBytes
+    → take mostData (take (length bs - fragmentBytes * n) (drop (fragmentBytes * n) bs)) ≡ fragmentPart bs n
+rest-cut bs n h =
+    let behind = drop (fragmentBytes * n) bs in
+    let k : length behind ≡ length bs - fragmentBytes * n = length-drop (fragmentBytes * n) bs in
+    rw (take-all (length bs - fragmentBytes * n) behind (omega arith))
+    (take-all mostData behind (omega arith) ∙ sym (take-all fragmentBytes behind (omega arith)))
+
+-- the bytes of a full fragment, place by place
+pub full-at : (bs : List ℕ) (n : ℕ) → fragmentBytes * n + fragmentBytes ≤ length bs
     → record {
-      len = 4;
-      b0 = getD bs (4 * n) 0;
-      b1 = getD bs (4 * n + 1) 0;
-      b2 = getD bs (4 * n + 2) 0;
-      b3 = getD bs (4 * n + 3) 0;
+      len = fragmentBytes;
+      b0 = getD bs (fragmentBytes * n) 0;
+      b1 = getD bs (fragmentBytes * n + 1) 0;
+      b2 = getD bs (fragmentBytes * n + 2) 0;
+      b3 = getD bs (fragmentBytes * n + 3) 0;
       b4 = 0;
       b5 = 0;
     }
-    ≡ dataOf (take 4 (drop (4 * n) bs))
-four-at bs n h =
-    let k : 4 ≤ length (drop (4 * n) bs) = simp length-drop (omega arith) in
-    let z : 4 * n + 0 ≡ 4 * n = omega arith in
-    sym (data-taken 4 (drop (4 * n) bs) k ∙ simp (getD-drop (4 * n) bs, z))
+    ≡ dataOf (fragmentPart bs n)
+full-at bs n h =
+    let start = fragmentBytes * n in
+    let k : fragmentBytes ≤ length (drop start bs) = simp length-drop (omega arith) in
+    let z : start + 0 ≡ start = omega arith in
+    sym (data-taken fragmentBytes (drop start bs) k ∙ simp (getD-drop start bs, z))
 
 -- ---- what is put is what 01 says, of what fits
 
@@ -95,10 +105,10 @@ answerable-exactly own h out = (ranges, λ f. simp (le-leb _ _ (f .address), le-
   where
     ranges : answerable own h out ≡ true → Answerable own h out
     ranges e =
-        let a = and-eq-true-iff _ (leb 640 out) .0 e in
+        let a = and-eq-true-iff _ (leb leastOut out) .0 e in
         let b = and-eq-true-iff _ (leb (h .object) 31) .0 (a .0) in
         let c = and-eq-true-iff _ (leb (h .service) 7) .0 (b .0) in
-        let d = and-eq-true-iff (leb own 125) (leb 4 (h .service)) .0 (c .0) in
+        let d = and-eq-true-iff (leb own mostAddress) (leb lowestLong (h .service)) .0 (c .0) in
         record {
           address = leb-true _ _ (d .0);
           named = leb-true _ _ (d .1);
@@ -108,22 +118,24 @@ answerable-exactly own h out = (ranges, λ f. simp (le-leb _ _ (f .address), le-
         }
 
 module _ (own : ℕ) (h : Header) (out : List ℕ) (f : Answerable own h (length out)) where
-  bare-sent : (response : ℕ) → response ≤ 3 → bare own h response out ≡ sent (imageOf (Plain (answering own h response) (dataOf [])) ∷ []) out
-  unfolding bare imageOf frameOf
-  bare-sent response m =
+  pub subject-ready : (response : ℕ) → response ≤ 3 → subjectFits (answering own h response) ≡ true
+  subject-ready response m = subject-fits (answering own h response) .1 (answering-fits own h response (f .address) (f .named) (f .service) m (f .object))
+
+  pub single-sent : (response : ℕ) (bs : List ℕ) → response ≤ 3 → length bs ≤ mostData
+      → single own h response (dataOf bs) out ≡ sent (imageOf (Plain (answering own h response) (dataOf bs)) ∷ []) out
+  unfolding single imageOf frameOf
+  single-sent response bs m k =
       let u = answering own h response in
-      let fits = subject-fits u .1 (answering-fits own h response (f .address) (f .named) (f .service) m (f .object)) in
-      simp (le-leb 10 (length out) (omega (arith, f .room)))
-      (rw (places-are-image u 0 (dataOf []) fits (omega arith) (tidy-data [] (omega arith) 6 (omega arith)))
-      (sym (sent-one (imageOf (Plain u (dataOf []))) out)))
+      simp (le-leb frameSize (length out) (omega (arith, f .room)))
+      (rw (places-are-image u 0 (dataOf bs) (subject-ready response m) (omega arith) (tidy-data bs k mostData k)) (sym (sent-one (imageOf (Plain u (dataOf bs))) out)))
 
-  pub refused : bare own h erroneous out ≡ sent (errorFrame own h ∷ []) out
+  pub refused : (number : ℕ) → refusedWith own h number out ≡ sent (errorFrame own h number ∷ []) out
   unfolding errorFrame
-  refused = bare-sent erroneous (omega arith)
+  refused number = single-sent erroneous [] (omega arith) (omega arith)
 
-  pub acknowledged : bare own h successful out ≡ sent (successFrame own h ∷ []) out
+  pub acknowledged : acknowledgedWith own h out ≡ sent (successFrame own h ∷ []) out
   unfolding successFrame
-  acknowledged = bare-sent successful (omega arith)
+  acknowledged = single-sent successful [] (omega arith) (omega arith)
 
   module _ (bs : List ℕ) (m : length bs ≤ 255) where
     part-fits : partFits own h bs (length out) ≡ true

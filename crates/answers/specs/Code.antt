@@ -1,30 +1,52 @@
 -- What the code puts, for every input; `refused`, `acknowledged` and `part-sent` say that of what fits it is what 01 says.
-use Prim.Native.Nat.{ℕ, _≤_}
-use mathlib.Core.Bool.{Bool, cond, _&&_}
+use Prim.Native.Nat.{ℕ, _+_, _*_, _≤_}
+use mathlib.Core.Path.{_≡_}
+use mathlib.Core.Bool.{Bool, true, cond, _&&_}
 use mathlib.Core.List.{List, []}
 use lib.ListN.{length}
 use lib.Dec.{leb}
 use Rattle.laws.specs.Put.{put}
+use Rattle.octets.specs.declared.Data.{Data}
 use Rattle.octets.specs.Data.{dataOf}
 use Rattle.codec.specs.declared.Header.{Header}
+use Rattle.codec.specs.declared.Subject.{Subject}
+use Rattle.codec.specs.Names.{frameSize, mostAddress, lowestLong, successful, erroneous}
+use Rattle.codec.specs.Writing.{subjectFits}
 use Rattle.codec.specs.Code.{longPlaces}
+use Rattle.guest.specs.Checks.{leastOut}
 use Rattle.guest.specs.Step.{answering, readFrames, sent}
 
--- what an answer needs: an address and a service that a frame carries, and room for 64 frames
+-- what an answer needs: an address, a service and an object that a frame carries, and room for the most frames of a reply
 pub record Answerable (own : ℕ) (h : Header) (out : ℕ) : Type 0 where
-  pub address : own ≤ 125
-  pub named : 4 ≤ h .service
+  pub address : own ≤ mostAddress
+  pub named : lowestLong ≤ h .service
   pub service : h .service ≤ 7
   pub object : h .object ≤ 31
-  pub room : 640 ≤ out
+  pub room : leastOut ≤ out
 
 -- the same as a test
 unfoldable pub answerable : ℕ → Header → ℕ → Bool
-answerable own h out = leb own 125 && leb 4 (h .service) && leb (h .service) 7 && leb (h .object) 31 && leb 640 out
+answerable own h out =
+    leb own mostAddress && leb lowestLong (h .service) && leb (h .service) 7 && leb (h .object) 31 && leb leastOut out
 
--- the output after one frame, flag clear, with no data: each field is cut to the bits that it has in the record, and an output of under ten bytes stays
-unfoldable pub bare : ℕ → Header → ℕ → List ℕ → List ℕ
-bare own h response out = cond (leb 10 (length out)) (put out 0 (longPlaces (answering own h response) 0 (dataOf []))) out
+-- the output after one frame, flag clear, with this data: each field is cut to the bits that it has in the record, and an output that has no room stays
+unfoldable pub single : ℕ → Header → ℕ → Data → List ℕ → List ℕ
+single own h response body out = cond (leb frameSize (length out)) (put out 0 (longPlaces (answering own h response) 0 body)) out
+
+-- after a refusal: whatever its number, the frame has no data
+abbrev pub refusedWith : ℕ → Header → ℕ → List ℕ → List ℕ
+refusedWith own h number out = single own h erroneous (dataOf []) out
+
+-- after a Write that is done
+abbrev pub acknowledgedWith : ℕ → Header → List ℕ → List ℕ
+acknowledgedWith own h out = single own h successful (dataOf []) out
+
+-- what fragment n of so many bytes needs: a subject that a frame carries, number and total of one byte, and room in its place
+pub record PieceReady (about : Subject) (n total out : ℕ) : Type 0 where
+  pub subject : subjectFits about ≡ true
+  pub number : n ≤ 255
+  pub whole : total ≤ 255
+  pub room : n * frameSize + frameSize ≤ out
 
 -- the frames of a Read, and how many: none where they do not fit
 unfoldable pub partFits : ℕ → Header → List ℕ → ℕ → Bool

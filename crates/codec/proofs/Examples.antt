@@ -1,8 +1,6 @@
 -- Worked examples of 000 against the names of its tables, computed.
-use Prim.Native.Nat.{ℕ}
 use mathlib.Core.Path.{_≡_, refl}
-use mathlib.Core.List.{List, [], _∷_, map}
-use Rattle.codec.specs.declared.Header.{Header}
+use mathlib.Core.List.{[], _∷_, map}
 use Rattle.codec.specs.Names.{writeService, readService, request, successful}
 use Rattle.codec.specs.Fields.{headerOf}
 

@@ -1,7 +1,7 @@
 -- What is known of a header that no check refuses.
-use Prim.Native.Nat.{ℕ, _-_, _<_, _≤_}
+use Prim.Native.Nat.{ℕ, _-_, _≤_}
 use mathlib.Core.Path.{_≡_, refl, ap, _∙_}
-use mathlib.Core.Bool.{Bool, true, false, cond, not, _&&_, _||_}
+use mathlib.Core.Bool.{true, false, _&&_, _||_}
 use mathlib.Mathlib.Data.Bool.Basic.{or-eq-false-eq-eq-false-and-eq-false as neither}
 use native.Mathlib.Omega.{arith}
 use mathlib.Core.List.{List}
@@ -16,7 +16,7 @@ use Rattle.octets.specs.Data.{dataOf, tidy, bytesOf}
 use Rattle.octets.proofs.Datas.{bytes-data, tidy-data}
 use Rattle.codec.specs.declared.Header.{Header}
 use Rattle.codec.specs.Fields.{headerOf}
-use Rattle.codec.specs.Reading.{headerChecks, readChecks, barred, unserved, cramped, payloadOf}
+use Rattle.codec.specs.Reading.{headerChecks, readChecks, barred, payloadOf}
 use Rattle.codec.specs.Code.{payloadData}
 
 -- every field of a header is within its bits, whatever the record
@@ -35,14 +35,14 @@ unfolding headerOf
 ranged r = omega arith
 
 -- a header that check 3 lets pass
-pub record Passed (h : Header) : Type 0 where
+pub record Unbarred (h : Header) : Type 0 where
   pub rtr : h .rtr ≡ 1 → ⊥
   pub dlc : h .dlc ≤ 8
   pub address : h .address ≤ 125
 
-pub passed : (h : Header) → firstOf (headerChecks h) ≡ 0 → Passed h
+pub unbarred : (h : Header) → firstOf (headerChecks h) ≡ 0 → Unbarred h
 unfolding holdsAt
-passed h e =
+unbarred h e =
     let none = none-holds (headerChecks h) refl .0 e in
     let a = neither (eqb (h .rtr) 1 || ltb 8 (h .dlc)) (ltb 125 (h .address)) .0 (none 3) in
     let b = neither (eqb (h .rtr) 1) (ltb 8 (h .dlc)) .0 (a .0) in
@@ -68,7 +68,7 @@ long-of h e z =
     let two = le-leb 2 (h .dlc) (omega arith) in
     record {
       least = omega arith;
-      most = passed h e .dlc;
+      most = unbarred h e .dlc;
       service = ltb-false (h .service) 4 (not-both (leb 2 (h .dlc)) (ltb (h .service) 4) (a .1) two);
       flagged = λ f. ltb-false (h .dlc) 4 (not-both (leb 2 (h .dlc) && eqb (h .flag) 1) (ltb (h .dlc) 4) (none 8) (simp (two, eq-eqb (h .flag) 1 f)));
     }
@@ -91,15 +91,15 @@ ten-of r e =
     (λ f. let z : _≡_ {A = ℕ} 1 0 = simp f at e in absurd (omega arith))
 
 -- what stands behind the ID of a long form that is read
-pub record Behind (r : List ℕ) (p : Data) : Type 0 where
+pub record Payload (r : List ℕ) (p : Data) : Type 0 where
   pub long : Long (headerOf r)
   pub len : p .len ≡ headerOf r .dlc - 2
   pub tidied : tidy 6 p ≡ true
   pub bytes : bytesOf p ≡ payloadOf r
 
-pub behind : (r : List ℕ) → firstOf (readChecks r) ≡ 0 → (headerOf r .dlc ≡ 0 → ⊥) → Behind r (payloadData r)
+pub payload-read : (r : List ℕ) → firstOf (readChecks r) ≡ 0 → (headerOf r .dlc ≡ 0 → ⊥) → Payload r (payloadData r)
 unfolding payloadData dataOf
-behind r e z =
+payload-read r e z =
     let t = ten-of r e in
     let l = long-of (headerOf r) (t .1) z in
     let n : length (payloadOf r) ≡ headerOf r .dlc - 2 = simp (length-take, length-drop) (omega (arith, t .0, l .most)) in

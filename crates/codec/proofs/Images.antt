@@ -1,8 +1,8 @@
 -- The ten bytes of a written record, one by one.
-use Prim.Native.Nat.{ℕ, suc, _+_, _-_, _*_, _%_, _≤_}
-use mathlib.Core.Path.{_≡_, refl, sym, ap, _∙_}
+use Prim.Native.Nat.{ℕ, suc, _+_, _-_, _%_, _≤_}
+use mathlib.Core.Path.{_≡_, sym, ap, _∙_}
 use mathlib.Core.Bool.{Bool, true, cond, _&&_, and-eq-true-iff}
-use mathlib.Core.List.{List, [], _∷_, _++_}
+use mathlib.Core.List.{List, _∷_, _++_}
 use native.Mathlib.Omega.{arith}
 use lib.ListN.{length, take, drop, length-take, length-drop}
 use lib.Seq.{take-all, getD-drop}
@@ -11,19 +11,19 @@ use Rattle.laws.specs.Bytes.{padded}
 use Rattle.laws.proofs.Bytes.{length-padded}
 use Rattle.laws.proofs.Tests.{split}
 use Rattle.octets.specs.declared.Data.{Data}
-use Rattle.octets.specs.Data.{dataOf, placesOf, bytesOf, tidy}
-use Rattle.octets.proofs.Datas.{tidy-most, tidy-more, tidy-data, bytes-data, bytes-length, bytes-padded, byte-place}
+use Rattle.octets.specs.Data.{mostData, dataOf, placesOf, bytesOf, tidy}
+use Rattle.octets.proofs.Datas.{tidy-most, tidy-more, tidy-data, bytes-data, bytes-length, places-padded, byte-place}
 use Rattle.codec.specs.declared.Subject.{Subject}
 use Rattle.codec.specs.declared.Message.{Message}
 use Rattle.codec.specs.declared.Message.the-variants.{Short, Plain, Fragment}
-use Rattle.codec.specs.Writing.{subjectFits, shortFits, carried, canHeader, longFrame, frameOf, imageOf, writeNumber, writtenOf}
-use Rattle.codec.specs.Code.{prefixed, unprefixed, longPlaces, putLong}
-use Rattle.codec.proofs.Fits.{subject-fits}
+use Rattle.codec.specs.Names.{frameSize}
+use Rattle.codec.specs.Writing.{subjectFits, shortFits, carried, longHeader, longFrame, frameOf, imageOf, writeNumber, writtenOf}
+use Rattle.codec.specs.Code.{prefixed, unprefixed, cutOf, longPlaces, shortPlaces, putLong, putShort}
+use Rattle.codec.proofs.Fits.{subject-fits, short-fits}
 
 -- four bytes, then what stands behind the ID, padded
 pub long-padded : (u : Subject) (flag : ℕ) (p : List ℕ) → length p ≤ 6
-    → padded 10 (longFrame u flag p)
-    ≡ (u .dir * 128 + u .address) ∷ (u .service * 32 + (length p + 2)) ∷ (u .response * 64 + flag * 32 + u .object) ∷ u .id ∷ padded 6 p
+    → padded 10 (longFrame u flag p) ≡ longHeader u flag (length p + 2) ++ padded 6 p
 unfolding longFrame
 long-padded u flag p h =
     let q : 10 - suc (suc (suc (suc (length p)))) ≡ 6 - length p = omega arith in
@@ -32,12 +32,11 @@ long-padded u flag p h =
 pub long-length : (u : Subject) (flag : ℕ) (p : List ℕ) → length p ≤ 6 → length (padded 10 (longFrame u flag p)) ≡ 10
 long-length u flag p h = ap length (long-padded u flag p h) ∙ ap (λ (k : ℕ). suc (suc (suc (suc k)))) (length-padded 6 p h)
 
-pub long-bytes : (u : Subject) (flag : ℕ) (d : Data) → tidy 6 d ≡ true
-    → padded 10 (longFrame u flag (bytesOf d))
-    ≡ (u .dir * 128 + u .address) ∷ (u .service * 32 + (d .len + 2)) ∷ (u .response * 64 + flag * 32 + u .object) ∷ u .id ∷ placesOf d
+long-bytes : (u : Subject) (flag : ℕ) (d : Data) → tidy 6 d ≡ true
+    → padded 10 (longFrame u flag (bytesOf d)) ≡ longHeader u flag (d .len + 2) ++ placesOf d
 long-bytes u flag d t =
     let n = bytes-length d t in
-    long-padded u flag (bytesOf d) (omega (arith, tidy-most 6 d t)) ∙ rw (bytes-padded d t, n)
+    long-padded u flag (bytesOf d) (omega (arith, tidy-most 6 d t)) ∙ rw (places-padded d t, n)
 
 -- what stands behind a fragment's ID is at most six bytes
 pub fragment-payload : (n k : ℕ) (d : Data) → tidy 4 d ≡ true
@@ -56,20 +55,33 @@ unfolding imageOf frameOf
 fragment-length u n k l h = rw (bytes-data l (omega arith)) (long-length u 1 (n ∷ k ∷ l) (omega arith))
 
 -- what fits is not altered by the cut of its fields
-pub places-are-image : (u : Subject) (flag : ℕ) (d : Data) → subjectFits u ≡ true → flag ≤ 1 → tidy 6 d ≡ true
-    → longPlaces u flag d ≡ padded 10 (longFrame u flag (bytesOf d))
-unfolding longPlaces
-places-are-image u flag d f g t =
+cut-is-same : (u : Subject) → subjectFits u ≡ true → cutOf u ≡ u
+cut-is-same u f =
     let r = subject-fits u .0 f in
-    let m = tidy-most 6 d t in
     let dir : u .dir % 2 ≡ u .dir = omega arith in
     let address : u .address % 128 ≡ u .address = omega arith in
     let service : u .service % 8 ≡ u .service = omega arith in
-    let len : d .len % 8 ≡ d .len = omega arith in
     let response : u .response % 4 ≡ u .response = omega arith in
-    let bit : flag % 2 ≡ flag = omega arith in
     let object : u .object % 32 ≡ u .object = omega arith in
-    rw (dir, address, service, len, response, bit, object) (sym (long-bytes u flag d t))
+    simp (dir, address, service, response, object)
+
+pub places-are-image : (u : Subject) (flag : ℕ) (d : Data) → subjectFits u ≡ true → flag ≤ 1 → tidy mostData d ≡ true
+    → longPlaces u flag d ≡ padded frameSize (longFrame u flag (bytesOf d))
+unfolding longPlaces
+places-are-image u flag d f g t =
+    let bit : flag % 2 ≡ flag = omega arith in
+    let len : d .len % 8 ≡ d .len = omega (arith, tidy-most mostData d t) in
+    ap (λ (w : Subject). longHeader w (flag % 2) (d .len % 8 + 2) ++ placesOf d) (cut-is-same u f) ∙ rw (bit, len) (sym (long-bytes u flag d t))
+
+pub short-places-are-image : (dir address service : ℕ) → shortFits dir address service ≡ true
+    → shortPlaces dir address service ≡ imageOf (Short dir address service)
+unfolding shortPlaces imageOf frameOf
+short-places-are-image dir address service f =
+    let r = short-fits dir address service .0 f in
+    let a : dir % 2 ≡ dir = omega arith in
+    let b : address % 128 ≡ address = omega arith in
+    let c : service % 8 ≡ service = omega arith in
+    rw (a, b, c)
 
 pub prefixed-is : (n k : ℕ) (d : Data) → tidy 4 d ≡ true → prefixed n k d ≡ dataOf (n ∷ k ∷ bytesOf d)
 unfolding prefixed dataOf
@@ -105,10 +117,12 @@ module _ (r : List ℕ) (h : length r ≡ 10) (number : ℕ) (after : List ℕ) 
       (λ t. (w .0 ∙ simp (t, ten), w .1 ∙ simp (t, ten) (e t)))
       (λ f. (w .0 ∙ simp (f, ten), w .1 ∙ simp (f, ten)))
 
-  pub short-written : (dir address service : ℕ) → Leaves (shortFits dir address service) (padded 10 (canHeader dir address service 0)) r number after
+  pub short-written : (dir address service : ℕ) → Leaves (shortFits dir address service) (putShort dir address service r) r number after
       → (number ≡ writeNumber (Short dir address service) r) × (after ≡ writtenOf (Short dir address service) r)
-  unfolding carried imageOf frameOf
-  short-written dir address service w = written-by (Short dir address service) (padded 10 (canHeader dir address service 0)) (λ t. refl) w
+  unfolding carried putShort
+  short-written dir address service w =
+      written-by (Short dir address service) (putShort dir address service r)
+      (λ t. simp (eq-eqb (length r) 10 h) (short-places-are-image dir address service t)) w
 
   pub plain-written : (u : Subject) (b : Data) (fits : Bool) → fits ≡ subjectFits u && tidy 6 b → Leaves fits (putLong u 0 b r) r number after
       → (number ≡ writeNumber (Plain u b) r) × (after ≡ writtenOf (Plain u b) r)

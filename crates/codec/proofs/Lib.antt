@@ -4,4 +4,5 @@ pub mod Fits
 pub mod Images
 pub mod Long
 pub mod Trips
+pub mod Unread
 pub mod Promises

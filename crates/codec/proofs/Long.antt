@@ -1,30 +1,27 @@
 -- The long form, plain and fragment alike: u is the subject, f the flag, p what stands behind the ID.
-use Prim.Native.Nat.{ℕ, suc, _+_, _-_, _*_, _/_, _%_, _<_, _≤_}
+use Prim.Native.Nat.{ℕ, _+_, _-_, _*_, _/_, _%_, _≤_}
 use mathlib.Core.Path.{_≡_, refl, sym, ap, _∙_}
-use mathlib.Core.Bool.{Bool, true, false, cond, _&&_, and-eq-true-iff}
-use mathlib.Core.List.{List, [], _∷_, _++_}
+use mathlib.Core.Bool.{true}
+use mathlib.Core.List.{List, [], _∷_}
 use native.Mathlib.Omega.{arith}
-use lib.ListN.{length, getD, take, drop, replicate, length-drop}
+use lib.ListN.{length, getD, drop, replicate, length-drop}
 use lib.Seq.{take-at}
-use lib.Dec.{ltb, leb, eqb}
-use borrow.Author.Tests.{eqb-true, eqb-false, eq-eqb, ne-eqb, le-ltb, le-leb, lt-leb}
+use lib.Dec.{eqb}
+use borrow.Author.Tests.{eqb-true, eqb-false, eq-eqb, ne-eqb, le-ltb}
 use Rattle.laws.specs.Bytes.{byteAt, padded}
 use Rattle.laws.specs.Checks.{firstOf}
-use Rattle.laws.proofs.Tests.{tests, split}
-use Rattle.octets.specs.declared.Data.{Data}
-use Rattle.octets.specs.Data.{dataOf, bytesOf, tidy}
+use Rattle.laws.proofs.Tests.{split}
+use Rattle.octets.specs.Data.{dataOf}
 use Rattle.octets.proofs.Datas.{bytes-data, tidy-data, data-bytes, byte-place}
 use Rattle.codec.specs.declared.Header.{Header}
 use Rattle.codec.specs.declared.Subject.{Subject}
-use Rattle.codec.specs.declared.Answer.{Answer}
-use Rattle.codec.specs.declared.Answer.the-variants.{Got, Refused}
-use Rattle.codec.specs.declared.Message.{Message}
-use Rattle.codec.specs.declared.Message.the-variants.{Short, Plain, Fragment}
+use Rattle.codec.specs.declared.Answer.the-variants.{Got}
+use Rattle.codec.specs.declared.Message.the-variants.{Plain, Fragment}
 use Rattle.codec.specs.Fields.{headerOf}
-use Rattle.codec.specs.Reading.{headerChecks, readChecks, subjectOf, payloadOf, longOf, messageOf, readOf}
+use Rattle.codec.specs.Reading.{headerChecks, readChecks, subjectOf, payloadTo, payloadOf, longOf, messageOf, readOf}
 use Rattle.codec.specs.Writing.{subjectFits, longFrame, frameOf, carried}
 use Rattle.codec.specs.Code.{payloadData, unprefixed}
-use Rattle.codec.proofs.Headers.{long-passes, behind}
+use Rattle.codec.proofs.Headers.{long-passes, payload-read}
 use Rattle.codec.proofs.Fits.{SubjectFits}
 use Rattle.codec.proofs.Images.{long-padded, long-length, data-unprefixed}
 
@@ -34,7 +31,7 @@ unfolding readOf
 got r n e = simp (eq-eqb (length r) 10 n, e)
 
 pub message-long : (r : List ℕ) (h : Header) → headerOf r ≡ h → (h .dlc ≡ 0 → ⊥)
-    → messageOf r ≡ longOf (subjectOf h) (h .flag) (take (h .dlc - 2) (drop 4 r))
+    → messageOf r ≡ longOf (subjectOf h) (h .flag) (payloadTo (h .dlc) r)
 unfolding messageOf
 message-long r h e z = rw e (simp (ne-eqb (h .dlc) 0 z))
 
@@ -134,7 +131,7 @@ message-fragment r z f = message-long r (headerOf r) refl z ∙ simp (eq-eqb (he
 -- the message of a long form that is read, by the payload's places
 module _ (r : List ℕ) (e : firstOf (readChecks r) ≡ 0) (z : headerOf r .dlc ≡ 0 → ⊥) where
   payload-data : dataOf (payloadOf r) ≡ payloadData r
-  payload-data = let w = behind r e z in ap dataOf (sym (w .bytes)) ∙ data-bytes (payloadData r) (w .tidied)
+  payload-data = let w = payload-read r e z in ap dataOf (sym (w .bytes)) ∙ data-bytes (payloadData r) (w .tidied)
 
   pub payload-plain : (headerOf r .flag ≡ 1 → ⊥) → messageOf r ≡ Plain (subjectOf (headerOf r)) (payloadData r)
   payload-plain f = message-plain r z f ∙ rw payload-data
@@ -142,6 +139,6 @@ module _ (r : List ℕ) (e : firstOf (readChecks r) ≡ 0) (z : headerOf r .dlc 
   pub payload-fragment : headerOf r .flag ≡ 1
       → messageOf r ≡ Fragment (subjectOf (headerOf r)) (payloadData r .b0) (payloadData r .b1) (unprefixed (payloadData r))
   payload-fragment f =
-      let w = behind r e z in
+      let w = payload-read r e z in
       message-fragment r z f
       ∙ rw (← w .bytes, byte-place (payloadData r) (w .tidied) 0, byte-place (payloadData r) (w .tidied) 1, data-unprefixed (payloadData r) (w .tidied))

@@ -1,7 +1,7 @@
 -- WHAT THE CODEC PROMISES. The definitions that these statements name stand in specs/; the lemmas behind them in the other files here.
-use Prim.Native.Nat.{ℕ, _<_, _≤_}
-use mathlib.Core.Path.{_≡_, refl, sym, ap, _∙_}
-use mathlib.Core.Bool.{true, false, cond, not}
+use Prim.Native.Nat.{ℕ, _+_, _<_, _≤_}
+use mathlib.Core.Path.{_≡_, refl, sym, _∙_}
+use mathlib.Core.Bool.{true, false}
 use mathlib.Core.List.{List}
 use mathlib.Core.Logic.{_↔_}
 use native.Mathlib.Omega.{arith}
@@ -11,19 +11,23 @@ use borrow.Author.Tests.{eqb-true, eq-eqb, ne-eqb, not-false}
 use denote.Ref.{now}
 use Rattle.laws.specs.Bytes.{Bytes, padded}
 use Rattle.laws.specs.Checks.{firstOf, holdsAt, FirstAt}
+use Rattle.laws.specs.Put.{Agree}
 use Rattle.laws.proofs.Tests.{split}
 use Rattle.laws.proofs.Checks.{given-exactly, none-holds}
 use Rattle.octets.specs.declared.Data.{Data}
-use Rattle.octets.specs.Data.{bytesOf, tidy}
-use Rattle.codec.specs.declared.Answer.the-variants.{Got, Refused}
+use Rattle.octets.specs.Data.{mostData, bytesOf, tidy}
+use Rattle.codec.specs.declared.Answer.the-variants.{Got}
 use Rattle.codec.specs.declared.Subject.{Subject}
 use Rattle.codec.specs.declared.Message.{Message}
+use Rattle.codec.specs.declared.Message.the-variants.{Short}
+use Rattle.codec.specs.Names.{frameSize}
 use Rattle.codec.specs.Fields.{headerOf}
 use Rattle.codec.specs.Reading.{readOf, readChecks, numberOf}
-use Rattle.codec.specs.Writing.{Octets, subjectFits, carried, longFrame, imageOf, writeChecks, writeNumber, writtenOf, clearedOf}
-use Rattle.codec.specs.Code.{putLong}
-use Rattle.codec.proofs.Images.{places-are-image}
-use Rattle.codec.proofs.Trips.{written, written-read, read-written, read-is-carried, image-octets}
+use Rattle.codec.specs.Writing.{Octets, subjectFits, shortFits, carried, longFrame, imageOf, writeChecks, writeNumber, writtenOf, clearedOf}
+use Rattle.codec.specs.Code.{putLong, putShort}
+use Rattle.codec.proofs.Images.{places-are-image, short-places-are-image}
+use Rattle.codec.proofs.Trips.{carried-is-written, written-read, read-written, read-is-carried, image-octets}
+use Rattle.codec.proofs.Unread.{same-read, cleared-ten, cleared-agrees}
 use Rattle.codec.proofs.heading.header_of.Reads as header-of
 use Rattle.codec.proofs.reading.payload_of.Reads as payload-of
 use Rattle.codec.proofs.reading.refusal_of.Reads as refusal-of
@@ -32,6 +36,7 @@ use Rattle.codec.proofs.reading.unprefixed.Reads as unprefixed
 use Rattle.codec.proofs.reading.read.Reads as read
 use Rattle.codec.proofs.writing.prefixed.Reads as prefixed
 use Rattle.codec.proofs.writing.put_long.Reads as put-long
+use Rattle.codec.proofs.writing.put_short.Reads as put-short
 use Rattle.codec.proofs.writing.write.Reads as write
 
 pub read-number : (r : List ℕ) → numberOf (readOf r) ≡ firstOf (readChecks r)
@@ -69,9 +74,9 @@ written-is-read m r e = let w = writes m r e in rw (w .1) (written-read m (w .0)
 
 -- writing what was read gives the record, with its unused bytes cleared
 pub read-is-written : (r : List ℕ) (m : Message) → Bytes r → readOf r ≡ Got m
-    → (s : List ℕ) → length s ≡ 10 → (writeNumber m s ≡ 0) × (writtenOf m s ≡ clearedOf r)
+    → (s : List ℕ) → length s ≡ frameSize → (writeNumber m s ≡ 0) × (writtenOf m s ≡ clearedOf r)
 read-is-written r m b e s n =
-    let w = written m s n (read-is-carried r m e) in
+    let w = carried-is-written m s n (read-is-carried r m e) in
     (w .0, w .1 ∙ read-written r m b e)
 
 -- a written record holds zeros beyond its DLC
@@ -89,21 +94,33 @@ pub refused-is-unread : (m : Message) (s : List ℕ) → writeNumber m s ≡ 3 �
 unfolding writeNumber
 refused-is-unread m s e r g =
     let y = read-is-carried r m g in
-    split (eqb (length s) 10)
+    split (eqb (length s) frameSize)
     (λ t. let z : _≡_ {A = ℕ} 0 3 = simp (t, y) at e in omega arith)
     (λ t. let z : _≡_ {A = ℕ} 1 3 = simp t at e in omega arith)
 
--- bytes beyond the DLC are not read
-pub unused-is-unread : (r : List ℕ) (m : Message) → Bytes r → readOf r ≡ Got m → readOf (clearedOf r) ≡ Got m
-unused-is-unread r m b e = rw (← read-written r m b e) (written-read m (read-is-carried r m e))
+-- bytes beyond the DLC are not read: two records that agree up to it are read alike, refused ones too
+pub beyond-is-unread : (r s : List ℕ) → length r ≡ frameSize → length s ≡ frameSize → Agree (λ i. i < headerOf r .dlc + 2) s r
+    → readOf s ≡ readOf r
+beyond-is-unread r s n m e = same-read r s n m e
+
+pub unused-is-unread : (r : List ℕ) → length r ≡ frameSize → readOf (clearedOf r) ≡ readOf r
+unused-is-unread r n = same-read r (clearedOf r) n (cleared-ten r n) (cleared-agrees r n)
 
 -- ---- for who sends frames that it knows to fit: what is put is what writing would leave
-pub put-is-written : (u : Subject) (flag : ℕ) (d : Data) (r : List ℕ) → subjectFits u ≡ true → flag ≤ 1 → tidy 6 d ≡ true → length r ≡ 10
-    → putLong u flag d r ≡ padded 10 (longFrame u flag (bytesOf d))
+
+pub put-is-written : (u : Subject) (flag : ℕ) (d : Data) (r : List ℕ) → subjectFits u ≡ true → flag ≤ 1 → tidy mostData d ≡ true → length r ≡ frameSize
+    → putLong u flag d r ≡ padded frameSize (longFrame u flag (bytesOf d))
 unfolding putLong
-put-is-written u flag d r f g t n = simp (eq-eqb (length r) 10 n) (places-are-image u flag d f g t)
+put-is-written u flag d r f g t n = simp (eq-eqb (length r) frameSize n) (places-are-image u flag d f g t)
+
+pub put-short-is-written : (dir address service : ℕ) (r : List ℕ) → shortFits dir address service ≡ true
+    → putShort dir address service r ≡ writtenOf (Short dir address service) r
+unfolding putShort writtenOf writeNumber carried
+put-short-is-written dir address service r f =
+    split (eqb (length r) frameSize) (λ t. simp (t, f) (short-places-are-image dir address service f)) (λ t. simp t)
 
 -- ---- determination: two outcomes that meet a function's contract are equal
+
 pub header-determined : (κs : _) (args : _) (r r' : _) (s s' : _) → header-of.Post κs args r s → header-of.Post κs args r' s' → r ≡ r'
 header-determined κs args r r' s s' p q = p ∙ sym q
 
@@ -122,8 +139,13 @@ unprefixed-determined κs args r r' s s' p q = p ∙ sym q
 pub prefixed-determined : (κs : _) (args : _) (r r' : _) (s s' : _) → prefixed.Post κs args r s → prefixed.Post κs args r' s' → r ≡ r'
 prefixed-determined κs args r r' s s' p q = p ∙ sym q
 
-pub put-determined : (κs : _) (args : _) (r r' : _) (s s' : _) → put-long.Post κs args r s → put-long.Post κs args r' s' → now (s .1 .1 .1 .0) ≡ now (s' .1 .1 .1 .0)
-put-determined κs args r r' s s' p q = p ∙ sym q
+pub put-long-determined : (κs : _) (args : _) (r r' : _) (s s' : _) → put-long.Post κs args r s → put-long.Post κs args r' s'
+    → now (s .1 .1 .1 .0) ≡ now (s' .1 .1 .1 .0)
+put-long-determined κs args r r' s s' p q = p ∙ sym q
+
+pub put-short-determined : (κs : _) (args : _) (r r' : _) (s s' : _) → put-short.Post κs args r s → put-short.Post κs args r' s'
+    → now (s .1 .1 .1 .0) ≡ now (s' .1 .1 .1 .0)
+put-short-determined κs args r r' s s' p q = p ∙ sym q
 
 pub read-determined : (κs : _) (args : _) (r r' : _) (s s' : _) → read.Post κs args r s → read.Post κs args r' s' → r ≡ r'
 read-determined κs args r r' s s' p q = p ∙ sym q
@@ -152,8 +174,11 @@ unprefixed-asks-nothing κs args = tt
 pub prefixed-asks-nothing : (κs : _) (args : _) → prefixed.Asked κs args
 prefixed-asks-nothing κs args = tt
 
-pub put-asks-nothing : (κs : _) (args : _) → put-long.Asked κs args
-put-asks-nothing κs args = tt
+pub put-long-asks-nothing : (κs : _) (args : _) → put-long.Asked κs args
+put-long-asks-nothing κs args = tt
+
+pub put-short-asks-nothing : (κs : _) (args : _) → put-short.Asked κs args
+put-short-asks-nothing κs args = tt
 
 pub read-asks-nothing : (κs : _) (args : _) → read.Asked κs args
 read-asks-nothing κs args = tt

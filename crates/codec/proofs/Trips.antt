@@ -1,13 +1,13 @@
 -- Both round trips, by the form of the message.
 use Prim.Native.Nat.{ℕ, suc, _+_, _-_, _*_, _/_, _%_, _<_, _≤_}
-use mathlib.Core.Path.{_≡_, refl, sym, ap, subst, _∙_}
-use mathlib.Core.Bool.{Bool, true, false, cond, not, _&&_, and-eq-true-iff}
-use mathlib.Core.List.{List, [], _∷_, _++_}
+use mathlib.Core.Path.{_≡_, ap, _∙_}
+use mathlib.Core.Bool.{true, and-eq-true-iff}
+use mathlib.Core.List.{List, [], _∷_}
 use native.Mathlib.Omega.{arith}
-use lib.ListN.{length, getD, take, drop, length-drop, length-take}
+use lib.ListN.{length, take, drop, length-drop}
 use lib.Seq.{length-take-le}
-use lib.Dec.{ltb, leb, eqb}
-use borrow.Author.Tests.{eqb-true, eqb-false, eq-eqb, ne-eqb, le-ltb}
+use lib.Dec.{eqb}
+use borrow.Author.Tests.{eqb-true, eqb-false, eq-eqb, le-ltb}
 use Rattle.laws.specs.Bytes.{Bytes, padded}
 use Rattle.laws.specs.Checks.{firstOf}
 use Rattle.laws.proofs.Tests.{split}
@@ -17,17 +17,15 @@ use Rattle.octets.specs.Data.{dataOf, placesOf, bytesOf, tidy}
 use Rattle.octets.proofs.Datas.{tidy-most, tidy-more, tidy-data, bytes-length, data-bytes}
 use Rattle.codec.specs.declared.Header.{Header}
 use Rattle.codec.specs.declared.Subject.{Subject}
-use Rattle.codec.specs.declared.Answer.{Answer}
 use Rattle.codec.specs.declared.Answer.the-variants.{Got, Refused}
 use Rattle.codec.specs.declared.Message.{Message}
 use Rattle.codec.specs.declared.Message.the-variants.{Short, Plain, Fragment}
 use Rattle.codec.specs.Fields.{headerOf}
-use Rattle.codec.specs.Reading.{headerChecks, readChecks, subjectOf, shortOf, longOf, messageOf, readOf}
-use Rattle.codec.specs.Writing.{Octets, subjectFits, shortFits, canHeader, longFrame, frameOf, imageOf, carried, clearedOf, writeNumber, writtenOf}
-use Rattle.codec.proofs.Headers.{Ranged, ranged, passed, Long, long-of}
+use Rattle.codec.specs.Reading.{headerChecks, subjectOf, payloadOf, shortOf, longOf, messageOf, readOf}
+use Rattle.codec.specs.Writing.{Octets, subjectFits, canHeader, longFrame, frameOf, imageOf, carried, clearedOf, writeNumber, writtenOf}
+use Rattle.codec.proofs.Headers.{Ranged, ranged, unbarred, Long, long-of}
 use Rattle.codec.proofs.Fits.{SubjectFits, subject-fits, ShortFits, short-fits}
-use Rattle.codec.proofs.Images.{long-length}
-use Rattle.codec.proofs.Long.{Shape, got, message-long, long-read, long-back, long-carried}
+use Rattle.codec.proofs.Long.{Shape, long-read, long-back, long-carried}
 
 -- ---- what was written is read back
 
@@ -82,7 +80,7 @@ read-by r m e =
 subject-of-fits : (h : Header) → Ranged h → firstOf (headerChecks h) ≡ 0 → Long h → subjectFits (subjectOf h) ≡ true
 subject-of-fits h g e l = subject-fits (subjectOf h) .1 (record {
   dir = g .dir;
-  address = passed h e .address;
+  address = unbarred h e .address;
   named = l .service;
   service = g .service;
   response = g .response;
@@ -90,19 +88,19 @@ subject-of-fits h g e l = subject-fits (subjectOf h) .1 (record {
 })
 
 module _ (r : List ℕ) (n : length r ≡ 10) (e : firstOf (headerChecks (headerOf r)) ≡ 0) where
-  long-shape : (h : Long (headerOf r)) → Shape (headerOf r .flag) (take (headerOf r .dlc - 2) (drop 4 r))
+  long-shape : (h : Long (headerOf r)) → Shape (headerOf r .flag) (payloadOf r)
   long-shape h =
-      let k : length (take (headerOf r .dlc - 2) (drop 4 r)) ≡ headerOf r .dlc - 2 = length-take-le (headerOf r .dlc - 2) (drop 4 r) (rw length-drop (omega (arith, h .most))) in
+      let k : length (payloadOf r) ≡ headerOf r .dlc - 2 = length-take-le (headerOf r .dlc - 2) (drop 4 r) (rw length-drop (omega (arith, h .most))) in
       record { bit = ranged r .flag; room = omega (arith, h .most); numbered = λ f. omega (arith, h .flagged f) }
 
   read-carried : carried (messageOf r) ≡ true
   unfolding carried messageOf
   read-carried =
       split (eqb (headerOf r .dlc) 0)
-      (λ z. simp z (short-fits _ _ _ .1 (record { dir = ranged r .dir; address = passed (headerOf r) e .address; service = ranged r .service })))
+      (λ z. simp z (short-fits _ _ _ .1 (record { dir = ranged r .dir; address = unbarred (headerOf r) e .address; service = ranged r .service })))
       (λ z.
       let h = long-of (headerOf r) e (eqb-false _ 0 z) in
-      simp z (long-carried (subjectOf (headerOf r)) (headerOf r .flag) (take (headerOf r .dlc - 2) (drop 4 r)) (long-shape h)
+      simp z (long-carried (subjectOf (headerOf r)) (headerOf r .flag) (payloadOf r) (long-shape h)
       (subject-of-fits (headerOf r) (ranged r) e h)))
 
 module _ (a b c i : ℕ) (l : List ℕ) (n : length l ≡ 6) (ha : a < 256) (hb : b < 256) (hc : c < 256)
@@ -111,7 +109,7 @@ module _ (a b c i : ℕ) (l : List ℕ) (n : length l ≡ 6) (ha : a < 256) (hb 
   byte1 : b / 32 % 8 * 32 + b / 1 % 16 ≡ b
   unfolding headerOf
   byte1 =
-      let q : b / 16 % 2 ≡ 0 = omega (arith, passed (headerOf (a ∷ b ∷ c ∷ i ∷ l)) e .rtr) in
+      let q : b / 16 % 2 ≡ 0 = omega (arith, unbarred (headerOf (a ∷ b ∷ c ∷ i ∷ l)) e .rtr) in
       omega arith
 
   short-back : headerOf (a ∷ b ∷ c ∷ i ∷ l) .dlc ≡ 0
@@ -201,17 +199,7 @@ fragment-carried u n k l f h = simp (subject-fits u .1 f, tidy-data l (omega ari
 pub read-message : (r : List ℕ) (m : Message) → readOf r ≡ Got m → messageOf r ≡ m
 read-message r m e = read-by r m e .is
 
--- a record that carries a message is ten bytes, and is what writing leaves of a record
-pub image-ten : (m : Message) → carried m ≡ true → length (imageOf m) ≡ 10
-unfolding imageOf frameOf carried
-image-ten (Short d a s) e = refl
-image-ten (Plain u b) e =
-    let f = and-eq-true-iff (subjectFits u) (tidy 6 b) .0 e in
-    long-length u 0 (bytesOf b) (plain-shape b (f .1) .room)
-image-ten (Fragment u n k b) e =
-    let f = and-eq-true-iff (subjectFits u) (tidy 4 b) .0 e in
-    long-length u 1 (n ∷ k ∷ bytesOf b) (fragment-shape n k b (f .1) .room)
-
-pub written : (m : Message) (r : List ℕ) → length r ≡ 10 → carried m ≡ true → (writeNumber m r ≡ 0) × (writtenOf m r ≡ imageOf m)
+-- a message that fits is written, whatever the record held
+pub carried-is-written : (m : Message) (r : List ℕ) → length r ≡ 10 → carried m ≡ true → (writeNumber m r ≡ 0) × (writtenOf m r ≡ imageOf m)
 unfolding writeNumber writtenOf
-written m r n e = (simp (eq-eqb (length r) 10 n, e), simp (eq-eqb (length r) 10 n, e))
+carried-is-written m r n e = (simp (eq-eqb (length r) 10 n, e), simp (eq-eqb (length r) 10 n, e))

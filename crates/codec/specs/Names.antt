@@ -1,5 +1,26 @@
--- The numbers of 000's tables, by name.
-use Prim.Native.Nat.{ℕ}
+-- The numbers of the papers, by name.
+use Prim.Native.Nat.{ℕ, _-_}
+use Rattle.octets.specs.Data.{mostData}
+
+-- "records of one fixed size, no header: 10 bytes" (01, "Frame record")
+abbrev pub frameSize : ℕ
+frameSize = 10
+
+-- "Logical Addresses 0 to 125" (3.2.1.2)
+abbrev pub mostAddress : ℕ
+mostAddress = 125
+
+-- "The valid DLC range in a long form APDU is 2-8" (3.2.2.1.3, figure 3.7)
+abbrev pub mostDlc : ℕ
+mostDlc = 8
+
+-- a fragment's number and total take two of the six bytes: "maximum APDU size (4 bytes for this service type)" (3.2.2.2.2, figure 3.14)
+abbrev pub mostFragmentData : ℕ
+mostFragmentData = mostData - 2
+
+-- "Service Types 4–7 (Read, Write, Action, Event)" (3.2.2.2)
+abbrev pub lowestLong : ℕ
+lowestLong = 4
 
 -- long form service types (figure 3.6)
 abbrev pub writeService : ℕ

@@ -1,8 +1,8 @@
 -- Reading a record (01, "Frame record": "The codec reads .."; 000, figures 3.3, 3.13 and 3.14).
-use Prim.Native.Nat.{ℕ, _+_, _-_}
+use Prim.Native.Nat.{ℕ, _-_}
 use mathlib.Core.Bool.{Bool, cond, not, _&&_, _||_}
 use mathlib.Core.List.{List, [], _∷_}
-use lib.ListN.{length, getD, take, drop}
+use lib.ListN.{length, take, drop}
 use lib.Dec.{ltb, leb, eqb}
 use Rattle.laws.specs.Bytes.{byteAt}
 use Rattle.laws.specs.Checks.{Check, firstOf}
@@ -13,15 +13,16 @@ use Rattle.codec.specs.declared.Message.{Message}
 use Rattle.codec.specs.declared.Message.the-variants.{Short, Plain, Fragment}
 use Rattle.codec.specs.declared.Answer.{Answer}
 use Rattle.codec.specs.declared.Answer.the-variants.{Got, Refused}
+use Rattle.codec.specs.Names.{frameSize, mostAddress, mostDlc, lowestLong}
 use Rattle.codec.specs.Fields.{headerOf}
 
 -- "RTR 1, DLC over 8, or address 126 or 127" (check 3)
 abbrev pub barred : Header → Bool
-barred h = eqb (h .rtr) 1 || ltb 8 (h .dlc) || ltb 125 (h .address)
+barred h = eqb (h .rtr) 1 || ltb mostDlc (h .dlc) || ltb mostAddress (h .address)
 
 -- "DLC 1, or DLC 2 up with service 0 to 3"
 abbrev pub unserved : Header → Bool
-unserved h = eqb (h .dlc) 1 || (leb 2 (h .dlc) && ltb (h .service) 4)
+unserved h = eqb (h .dlc) 1 || (leb 2 (h .dlc) && ltb (h .service) lowestLong)
 
 -- "flag set, DLC 2 or 3"
 abbrev pub cramped : Header → Bool
@@ -32,7 +33,7 @@ headerChecks h = (barred h, 3) ∷ (unserved h, 5) ∷ (cramped h, 8) ∷ []
 
 -- the refusals of reading, in 01's order
 abbrev pub readChecks : List ℕ → List Check
-readChecks r = (not (eqb (length r) 10), 1) ∷ headerChecks (headerOf r)
+readChecks r = (not (eqb (length r) frameSize), 1) ∷ headerChecks (headerOf r)
 
 abbrev pub subjectOf : Header → Subject
 subjectOf h = record {
@@ -45,8 +46,11 @@ subjectOf h = record {
 }
 
 -- the DLC counts bytes from byte 2 on: what stands behind the ID is its last DLC - 2
+abbrev pub payloadTo : ℕ → List ℕ → List ℕ
+payloadTo dlc r = take (dlc - 2) (drop 4 r)
+
 abbrev pub payloadOf : List ℕ → List ℕ
-payloadOf r = take (headerOf r .dlc - 2) (drop 4 r)
+payloadOf r = payloadTo (headerOf r .dlc) r
 
 -- flag clear: all of that is data. Flag set: the fragment's number, the total byte count, then data
 unfoldable pub longOf : Subject → ℕ → List ℕ → Message

@@ -11,7 +11,35 @@ pub use reading::subject_of;
 pub use reading::unprefixed;
 pub use writing::prefixed;
 pub use writing::put_long;
+pub use writing::put_short;
 pub use writing::write;
+
+// The bytes of a record.
+pub const FRAME_SIZE: usize = 10;
+
+// The highest logical address (000, 3.2.1.2).
+pub const MOST_ADDRESS: u8 = 125;
+
+// The highest data length code (000, figure 3.7).
+pub const MOST_DLC: u8 = 8;
+
+// The most data bytes of a fragment: its number and total take two of the six (000, figure 3.14).
+pub const MOST_FRAGMENT_DATA: u8 = octets::MOST - 2;
+
+// The lowest service type of a long form that the codec reads (01, "Frame record").
+pub const LOWEST_LONG: u8 = 4;
+
+// Long form service types (000, figure 3.6).
+pub const WRITE_SERVICE: u8 = 4;
+
+pub const READ_SERVICE: u8 = 5;
+
+// Request/Response (000, figure 3.8).
+pub const REQUEST: u8 = 0;
+
+pub const SUCCESSFUL: u8 = 1;
+
+pub const ERRONEOUS: u8 = 2;
 
 // The fields of a record's first four bytes, as they stand there, whether or not the record is readable.
 pub struct Header {

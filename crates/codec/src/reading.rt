@@ -1,12 +1,20 @@
 // Reading: a record to its message, or the number of the refusal.
 ghost use mathlib.Core.Path.{_≡_};
-ghost use mathlib.Core.Bool.{true};
+ghost use mathlib.Core.Bool.{true, cond};
+ghost use mathlib.Core.List.{[]};
+ghost use lib.Dec.{leb};
+ghost use lib.ListN.{length};
 ghost use Rattle.laws.specs.Checks.{firstOf};
-ghost use Rattle.octets.specs.Data.{tidy, bytesOf};
-ghost use Rattle.codec.specs.Reading.{headerChecks, readChecks, subjectOf, longOf, readOf};
+ghost use Rattle.octets.specs.Data.{mostData, dataOf, tidy, bytesOf};
+ghost use Rattle.codec.specs.Names.{frameSize, mostDlc};
+ghost use Rattle.codec.specs.Reading.{headerChecks, readChecks, subjectOf, payloadTo, longOf, readOf};
 ghost use Rattle.codec.specs.Code.{payloadData, unprefixed as Code·unprefixed};
 use crate::Answer;
+use crate::FRAME_SIZE;
 use crate::Header;
+use crate::LOWEST_LONG;
+use crate::MOST_ADDRESS;
+use crate::MOST_DLC;
 use crate::Message;
 use crate::Subject;
 use crate::heading::header_of;
@@ -21,10 +29,10 @@ fn refusal(h: Header) -> u8
     if h.rtr == 1 {
         return 3;
     }
-    if 8 < h.dlc {
+    if MOST_DLC < h.dlc {
         return 3;
     }
-    if 125 < h.address {
+    if MOST_ADDRESS < h.address {
         return 3;
     }
     if h.dlc == 1 {
@@ -33,7 +41,7 @@ fn refusal(h: Header) -> u8
     if h.dlc < 2 {
         return 0;
     }
-    if h.service < 4 {
+    if h.service < LOWEST_LONG {
         return 5;
     }
     if h.flag != 1 {
@@ -59,22 +67,29 @@ pub fn subject_of(h: Header) -> Subject
     }
 }
 
+// What stands behind the ID of a record of ten bytes, up to this DLC. Nothing where it is over 8.
+fn payload_to(dlc: u8, frame: &[u8]) -> Data
+    requires { ⌜ length (now frame) ≡ frameSize ⌝ }
+    ensures { λ r. ⌜ r ≡ cond (leb dlc mostDlc) (dataOf (payloadTo dlc (now (frame .entry)))) (dataOf []) ⌝ }
+{
+    if MOST_DLC < dlc {
+        return no_data();
+    }
+    if dlc < 2 {
+        return no_data();
+    }
+    let end = dlc as usize + 2;
+    data_from(&frame[4..end])
+}
+
 // What stands behind the ID, up to the DLC. Nothing of a record that is not ten bytes long, or whose DLC is over 8.
 pub fn payload_of(frame: &[u8]) -> Data
     ensures { λ r. ⌜ r ≡ payloadData (now (frame .entry)) ⌝ }
 {
-    if frame.len() != 10 {
+    if frame.len() != FRAME_SIZE {
         return no_data();
     }
-    let h = header_of(frame);
-    if 8 < h.dlc {
-        return no_data();
-    }
-    if h.dlc < 2 {
-        return no_data();
-    }
-    let end = h.dlc as usize + 2;
-    data_from(&frame[4..end])
+    payload_to(header_of(frame).dlc, frame)
 }
 
 // What stands behind a fragment's number and total: the way back from `prefixed`.
@@ -95,7 +110,7 @@ pub fn unprefixed(p: Data) -> Data
 
 // A long message, of what stands behind its ID. With the flag set the first two bytes are no data.
 fn long_of(about: Subject, flag: u8, payload: Data) -> Message
-    requires { ⌜ tidy 6 payload ≡ true ⌝ }
+    requires { ⌜ tidy mostData payload ≡ true ⌝ }
     ensures { λ r. ⌜ r ≡ longOf about flag (bytesOf payload) ⌝ }
 {
     if flag != 1 {
@@ -116,7 +131,7 @@ fn long_of(about: Subject, flag: u8, payload: Data) -> Message
 pub fn refusal_of(frame: &[u8]) -> u8
     ensures { λ r. ⌜ r ≡ firstOf (readChecks (now (frame .entry))) ⌝ }
 {
-    if frame.len() != 10 {
+    if frame.len() != FRAME_SIZE {
         return 1;
     }
     refusal(header_of(frame))

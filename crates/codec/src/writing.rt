@@ -1,15 +1,19 @@
 // Writing: a message to the ten bytes of a record that carries it.
 ghost use mathlib.Core.Path.{_≡_};
-ghost use mathlib.Core.Bool.{true, cond, _&&_};
-ghost use lib.ListN.{length};
-ghost use Rattle.laws.specs.Bytes.{padded};
-ghost use Rattle.octets.specs.Data.{tidy};
-ghost use Rattle.codec.specs.Writing.{subjectFits, shortFits, canHeader, writeNumber, writtenOf};
-ghost use Rattle.codec.specs.Code.{prefixed as Code·prefixed, putLong};
+ghost use mathlib.Core.Bool.{cond, _&&_};
+ghost use mathlib.Core.List.{_∷_};
+ghost use Rattle.octets.specs.Data.{placesOf, tidy};
+ghost use Rattle.codec.specs.Writing.{subjectFits, shortFits, writeNumber, writtenOf};
+ghost use Rattle.codec.specs.Code.{prefixed as Code·prefixed, putTen, putLong, putShort};
+use crate::FRAME_SIZE;
+use crate::LOWEST_LONG;
+use crate::MOST_ADDRESS;
+use crate::MOST_FRAGMENT_DATA;
 use crate::Message;
 use crate::Subject;
 use octets::Data;
 use octets::is_tidy;
+use octets::no_data;
 
 fn subject_fits(u: Subject) -> bool
     ensures { λ r. ⌜ r ≡ subjectFits u ⌝ }
@@ -17,10 +21,10 @@ fn subject_fits(u: Subject) -> bool
     if 1 < u.dir {
         return false;
     }
-    if 125 < u.address {
+    if MOST_ADDRESS < u.address {
         return false;
     }
-    if u.service < 4 {
+    if u.service < LOWEST_LONG {
         return false;
     }
     if 7 < u.service {
@@ -41,7 +45,7 @@ fn short_fits(dir: u8, address: u8, service: u8) -> bool
     if 1 < dir {
         return false;
     }
-    if 125 < address {
+    if MOST_ADDRESS < address {
         return false;
     }
     if 7 < service {
@@ -74,41 +78,51 @@ pub fn prefixed(number: u8, total: u8, d: Data) -> Data
     }
 }
 
+// Puts ten bytes into a record of ten, the last six of them the places of data. One of another length stays.
+fn put_ten(b0: u8, b1: u8, b2: u8, b3: u8, behind: Data, frame: &mut [u8])
+    ensures { λ _. ⌜ now (frame .exit) ≡ putTen (b0 ∷ b1 ∷ b2 ∷ b3 ∷ placesOf behind) (now (frame .entry)) ⌝ }
+{
+    if frame.len() != FRAME_SIZE {
+        return;
+    }
+    frame[0] = b0;
+    frame[1] = b1;
+    frame[2] = b2;
+    frame[3] = b3;
+    frame[4] = behind.b0;
+    frame[5] = behind.b1;
+    frame[6] = behind.b2;
+    frame[7] = behind.b3;
+    frame[8] = behind.b4;
+    frame[9] = behind.b5;
+}
+
 // Puts a long form into a record of ten bytes, of its flag and what stands behind its ID. Nothing is tested: each field is cut to its bits.
 pub fn put_long(u: Subject, flag: u8, payload: Data, frame: &mut [u8])
     ensures { λ _. ⌜ now (frame .exit) ≡ putLong u flag payload (now (frame .entry)) ⌝ }
 {
-    if frame.len() != 10 {
-        return;
-    }
-    frame[0] = u.dir % 2 * 128 + u.address % 128;
-    frame[1] = u.service % 8 * 32 + (payload.len % 8 + 2);
-    frame[2] = u.response % 4 * 64 + flag % 2 * 32 + u.object % 32;
-    frame[3] = u.id;
-    frame[4] = payload.b0;
-    frame[5] = payload.b1;
-    frame[6] = payload.b2;
-    frame[7] = payload.b3;
-    frame[8] = payload.b4;
-    frame[9] = payload.b5;
+    let b0 = u.dir % 2 * 128 + u.address % 128;
+    let b1 = u.service % 8 * 32 + (payload.len % 8 + 2);
+    let b2 = u.response % 4 * 64 + flag % 2 * 32 + u.object % 32;
+    put_ten(b0, b1, b2, u.id, payload, frame);
 }
 
-fn short_image(dir: u8, address: u8, service: u8) -> [u8; 10]
-    requires { ⌜ shortFits dir address service ≡ true ⌝ }
-    ensures { λ r. ⌜ r ≡ padded 10 (canHeader dir address service 0) ⌝ }
+// Puts a short form into a record of ten bytes. Nothing is tested: each field is cut to its bits.
+pub fn put_short(dir: u8, address: u8, service: u8, frame: &mut [u8])
+    ensures { λ _. ⌜ now (frame .exit) ≡ putShort dir address service (now (frame .entry)) ⌝ }
 {
-    [dir * 128 + address, service * 32, 0, 0, 0, 0, 0, 0, 0, 0]
+    let b0 = dir % 2 * 128 + address % 128;
+    let b1 = service % 8 * 32;
+    put_ten(b0, b1, 0, 0, no_data(), frame);
 }
 
-// Writes a short form into a record of ten bytes, if it fits.
+// Writes a short form, if it fits.
 fn write_short(dir: u8, address: u8, service: u8, frame: &mut [u8]) -> u8
-    requires { ⌜ length (now frame) ≡ 10 ⌝ }
     ensures { λ r. ⌜ (r ≡ cond (shortFits dir address service) 0 3)
-        × (now (frame .exit) ≡ cond (shortFits dir address service) (padded 10 (canHeader dir address service 0)) (now (frame .entry))) ⌝ }
+        × (now (frame .exit) ≡ cond (shortFits dir address service) (putShort dir address service (now (frame .entry))) (now (frame .entry))) ⌝ }
 {
     if short_fits(dir, address, service) {
-        let bytes = short_image(dir, address, service);
-        bytes::copy(&bytes, frame);
+        put_short(dir, address, service, frame);
         return 0;
     }
     3
@@ -129,7 +143,7 @@ fn write_long(fits: bool, u: Subject, flag: u8, payload: Data, frame: &mut [u8])
 pub fn write(m: Message, frame: &mut [u8]) -> u8
     ensures { λ r. ⌜ (r ≡ writeNumber m (now (frame .entry))) × (now (frame .exit) ≡ writtenOf m (now (frame .entry))) ⌝ }
 {
-    if frame.len() != 10 {
+    if frame.len() != FRAME_SIZE {
         return 1;
     }
     match m {
@@ -139,7 +153,7 @@ pub fn write(m: Message, frame: &mut [u8]) -> u8
             service,
         } => write_short(dir, address, service, frame),
         Message::Plain { about, body } => write_long(
-            long_fits(about, 6, body),
+            long_fits(about, octets::MOST, body),
             about,
             0,
             body,
@@ -151,7 +165,7 @@ pub fn write(m: Message, frame: &mut [u8]) -> u8
             total,
             body,
         } => write_long(
-            long_fits(about, 4, body),
+            long_fits(about, MOST_FRAGMENT_DATA, body),
             about,
             1,
             prefixed(number, total, body),

@@ -1,74 +1,80 @@
--- DEMAND 3. "One address, a well-formed table with its store, a cleared work area, buffers of accepted sizes: mix the frames of different objects in any order
--- that keeps each object's own order, and every frame gets the answer and response frames it would get with the objects served one after another, and the
--- final store is the same. A fragmented write counts as one whole write at its last fragment. An unfinished one never shows."
-use Prim.Native.Nat.{ℕ, _*_, _≤_, _<_}
-use mathlib.Core.Path.{_≡_, refl, sym, ap, _∙_}
+-- Demand 3 is met (specs/Demand3), and "completes" is what 01 says.
+use Prim.Native.Nat.{ℕ, _*_, _≤_}
+use mathlib.Core.Path.{_≡_, refl, ap, _∙_}
 use mathlib.Core.Logic.{_↔_}
 use mathlib.Core.Bool.{true}
-use mathlib.Core.Option.{Option, none, some}
-use mathlib.Core.List.{List, [], _∷_, _++_, reverse}
+use mathlib.Core.List.{List, reverse}
 use native.Mathlib.Omega.{arith}
-use lib.ListN.{length, getD, replicate, length-replicate, getD-replicate}
-use Rattle.laws.specs.Mixing.{inputsOf, answersOf, serially, occurrences, run, trace}
-use Rattle.laws.proofs.Mixing.{mixed, in-series, in-turn, free-anywhere}
-use Rattle.join.specs.Work.{Piece, base, load}
+use lib.ListN.{length, getD, take, replicate, length-replicate, getD-replicate}
+use Rattle.laws.specs.Mixing.{run}
+use Rattle.laws.proofs.Mixing.{Local, mixed, in-series, in-turn, free-anywhere, local-as, run-as}
+use Rattle.join.specs.Work.{recordCount, areaSize, base, Piece, load}
 use Rattle.join.specs.History.{completes, Completes}
+use Rattle.join.proofs.Places.{base-inside}
 use Rattle.join.proofs.Joins.{completes-in-words}
-use Rattle.guest.specs.Checks.{Setting}
-use Rattle.guest.specs.Step.{Areas, next, answer, object}
-use Rattle.guest.specs.Belongs.{Good}
-use Rattle.guest.specs.History.{shown, said}
-use Rattle.guest.proofs.Mixed.{device-local, object-below}
-use Rattle.guest.proofs.Shown.{run-since, shows, says}
+use Rattle.guest.specs.Checks.{Setting, joiner}
+use Rattle.guest.specs.Step.{Areas, flat, next, answer, call, setting, outcomeOf, stepOf}
+use Rattle.guest.specs.Belongs.{Same, Good}
+use Rattle.guest.proofs.Mixed.{device-local, owner-below}
+use Rattle.guest.proofs.Shown.{since, run-since, store-shown, answer-shown}
+use Rattle.demands.specs.Demand3.{seen, after, answered, its, whose, Mixes, Demand3}
+use Rattle.demands.proofs.Demand2.{demand-2}
 
--- where a device starts: its store as long as the setting says, and a cleared work area of the accepted size.
--- (Nothing is asked of the table, the address and the other sizes: where checks 1 or 2 refuse them, every frame gets that answer.)
-pub record Start (s : Setting) (x : Areas) : Type 0 where
-  pub size : s .work ≡ 8320
-  pub store : length (x .store) ≡ s .store
-  pub cleared : x .work ≡ replicate 8320 0
+module _ (own : ℕ) (table out : List ℕ) (x : Areas) where
+  abbrev s : Setting
+  s = its stepOf own table out x
 
--- every object, once
-abbrev pub EachOnce : List ℕ → Type 0
-EachOnce os = (o : ℕ) → o < 32 → occurrences o os ≡ 1
+  -- lengths stay, so that the setting is the same at every frame
+  setting-stays : (y : Areas) → Good s y → setting own table y out ≡ s
+  setting-stays y g = λ i. record { own = own; table = table; storeLen = g .store i; workLen = g .work i; outLen = length out }
 
--- Frames are records of any length and content. `object s r` is whose a frame is; the frames that checks 1 to 6 refuse are nobody's.
-pub record Demand3 (s : Setting) (x : Areas) : Type 0 where
-  -- two orders that keep each object's own order: each object's frames get the same answers and response frames, and store and work area end the same
-  pub any-mix : (fs gs : List (List ℕ)) → ((o : ℕ) → inputsOf (object s) o fs ≡ inputsOf (object s) o gs)
-      → ((o : ℕ) → answersOf (object s) o (trace (next s) (answer s) fs x) ≡ answersOf (object s) o (trace (next s) (answer s) gs x))
-      × (run (next s) fs x ≡ run (next s) gs x)
-  -- one such order serves the objects one after another, in whatever order of objects
-  pub one-after-another : (os : List ℕ) → EachOnce os → (fs : List (List ℕ))
-      → ((o : ℕ) → answersOf (object s) o (trace (next s) (answer s) fs x) ≡ answersOf (object s) o (trace (next s) (answer s) (serially (object s) os fs) x))
-      × (run (next s) fs x ≡ run (next s) (serially (object s) os fs) x)
-  -- frame by frame: r is answered as at its turn, behind the objects ps and the earlier frames of its own object
-  pub at-its-turn : (o : ℕ) (ps : List ℕ) → occurrences o ps ≡ 0 → (before behind : List (List ℕ)) (r : List ℕ) → object s r ≡ some o
-      → answer s r (run (next s) before x) ≡ answer s r (run (next s) (serially (object s) ps (before ++ r ∷ behind) ++ inputsOf (object s) o before) x)
-  -- a frame of no object is answered the same anywhere
-  pub nobodys : (before : List (List ℕ)) (r : List ℕ) → object s r ≡ none → answer s r (run (next s) before x) ≡ answer s r x
-  -- the store shows whole writes only, a fragmented one at the frame that completes it: `shown` reads the frames and no work area
-  pub whole-writes : (fs : List (List ℕ)) → run (next s) fs x .store ≡ shown s (x .store) (reverse fs)
-  -- so do the answers: a Read between is cut from the shown store
-  pub answers-from-history : (before : List (List ℕ)) (r : List ℕ) → answer s r (run (next s) before x) ≡ said s (x .store) (reverse before) r
+  does-same : (r : List ℕ) (y : Areas) → Good s y → after stepOf own table out r y ≡ next s r y
+  unfolding stepOf outcomeOf
+  does-same r y g = ap (λ (t : Setting). next t r y) (setting-stays y g)
 
-pub demand-3 : (s : Setting) (x : Areas) → Start s x → Demand3 s x
-unfolding load
-demand-3 s x st = record {
-  any-mix = λ fs gs h. mixed (device-local s) fs gs x good h;
-  one-after-another = λ os each fs. in-series (device-local s) 32 (object-below s) os each fs x good;
-  at-its-turn = λ o ps absent before behind r m. in-turn (device-local s) o ps absent before behind r x good m;
-  nobodys = λ before r m. free-anywhere (device-local s) before r x good m;
-  whole-writes = λ fs. ap (λ (y : Areas). y .store) (run-since s fs x) ∙ shows s (st .size) x good clear (reverse fs);
-  answers-from-history = λ before r. ap (answer s r) (run-since s before x) ∙ says s (st .size) x good clear (reverse before) r;
-}
-  where
+  says-same : (r : List ℕ) (y : Areas) → Good s y → answered stepOf own table out r y ≡ seen (answer s r y)
+  unfolding stepOf outcomeOf
+  says-same r y g =
+      let front : take (10 * stepOf (call r own table y out) .count) (stepOf (call r own table y out) .out) ≡ flat (answer (setting own table y out) r y .frames) =
+      demand-2 .sends (call r own table y out) .front in
+      ap (λ (l : List ℕ). (stepOf (call r own table y out) .number, l)) front
+      ∙ ap (λ (t : Setting). seen (answer t r y)) (setting-stays y g)
+
+  local : Local (after stepOf own table out) (answered stepOf own table out) (whose stepOf own table out x) (Good s) (Same table)
+  local = local-as (device-local s) seen does-same says-same
+
+  module _ (start : x .work ≡ replicate areaSize 0) where
     good : Good s x
-    good = record { store = st .store; work = ap length (st .cleared) ∙ length-replicate {A = ℕ} 8320 0 ∙ sym (st .size) }
+    good = record { store = refl; work = refl }
 
-    clear : (o : ℕ) → o ≤ 31 → load (base o) (x .work) .status ≡ 0
-    clear o l = ap (λ (w : List ℕ). getD w (260 * o) 0) (st .cleared) ∙ getD-replicate {A = ℕ} 8320 (260 * o) 0 0 (omega arith)
+    sized : s .workLen ≡ areaSize
+    sized = ap length start ∙ length-replicate {A = ℕ} areaSize 0
+
+    clear : (o : ℕ) → o ≤ 31 → load joiner (base o) (x .work) .status ≡ 0
+    unfolding load
+    clear o l = ap (λ (w : List ℕ). getD w (base o) 0) start ∙ getD-replicate {A = ℕ} areaSize (base o) 0 0 (omega (arith, base-inside o l))
+
+    ran-since : (fs : List (List ℕ)) → run (after stepOf own table out) fs x ≡ since s x (reverse fs)
+    ran-since fs = run-as (device-local s) seen does-same says-same fs x good .0 ∙ run-since s fs x
+
+    mixes : Mixes stepOf own table out x
+    mixes = record {
+      any-mix = λ fs gs h. mixed local fs gs x good h;
+      one-after-another = λ os each fs. in-series local recordCount (owner-below s) os each fs x good;
+      at-its-turn = λ o ps absent before behind r m. in-turn local o ps absent before behind r x good m;
+      nobodys = λ before r m. free-anywhere local before r x good m;
+      whole-writes = λ fs. ap (λ (y : Areas). y .store) (ran-since fs) ∙ store-shown s sized x good clear (reverse fs);
+      answers-from-history = λ before r.
+          let e = run-as (device-local s) seen does-same says-same before x good in
+          ap (answered stepOf own table out r) (e .0)
+          ∙ says-same r (run (next s) before x) (e .1)
+          ∙ ap (λ (y : Areas). seen (answer s r y)) (run-since s before x)
+          ∙ ap seen (answer-shown s sized x good clear (reverse before) r);
+    }
+
+pub demand-3 : Demand3 stepOf
+demand-3 own table out x start = mixes own table out x start
 
 -- "completes" is what 01 says: "the m frames just before it in that list carry numbers 0 to m-1, the same ID and the same total"
-pub completes-as-01-says : (h : List Piece) (p : Piece) → (completes 4 h p ≡ true) ↔ Completes 4 h p
-completes-as-01-says h p = completes-in-words 4 h p
+pub completes-as-01-says : (h : List Piece) (p : Piece) → (completes joiner h p ≡ true) ↔ Completes joiner h p
+completes-as-01-says h p = completes-in-words joiner h p

@@ -1,110 +1,113 @@
--- The five useless devices (01, "What the guarantees have to determine"): none of them meets what is promised.
+-- The five useless devices (01, "What the guarantees have to determine"): each is shut out by the demand that 01 names, whatever else it does.
 use Prim.Native.Nat.{ℕ, suc}
 use mathlib.Core.Path.{_≡_, refl, sym, ap, _∙_}
 use mathlib.Core.Logic.{_≢_}
+use mathlib.Core.Bool.{false}
 use mathlib.Core.List.{List, [], _∷_, map, reverse}
 use native.Mathlib.Omega.{arith}
-use lib.ListN.{length, getD, take, drop, replicate}
+use lib.ListN.{length, getD}
 use Rattle.laws.specs.Bytes.{byteAt, upFrom}
+use Rattle.laws.specs.Checks.{holdsAt}
 use Rattle.laws.specs.Put.{put}
 use Rattle.laws.specs.Mixing.{run}
+use Rattle.laws.proofs.Checks.{none-holds}
+use Rattle.octets.specs.Data.{bytesOf}
+use Rattle.codec.specs.declared.Message.the-variants.{Short, Plain, Fragment}
+use Rattle.codec.specs.declared.Answer.{Answer}
+use Rattle.codec.specs.declared.Answer.the-variants.{Got, Refused}
 use Rattle.codec.specs.Fields.{headerOf}
-use Rattle.join.specs.History.{chain, gather, completes, message}
-use Rattle.guest.specs.Step.{answer, Areas, sent, settingOf, Outcome, stepWith, stepOf}
+use Rattle.codec.specs.Reading.{readOf}
+use Rattle.table.specs.declared.Found.{Found}
+use Rattle.table.specs.declared.Found.the-variants.{At, Nothing}
+use Rattle.join.specs.History.{chain, gather, message}
+use Rattle.guest.specs.Step.{Areas, areas, Call, Outcome, outcome, outcomeOf}
 use Rattle.guest.specs.History.{shown}
-use Rattle.demands.specs.Sample.{sample, fresh}
+use Rattle.demands.specs.Demand1.{Device, checksOf}
+use Rattle.demands.specs.Demand2.{framesFor, Served, read, written, fragment, Demand2}
+use Rattle.demands.specs.Demand3.{after, Demand3}
+use Rattle.demands.specs.Sample.{sampleTable, fresh, freshOut, sample, toSample}
 use Rattle.demands.specs.Cases.{p1, p1Answer, p1Store, tagFragment}
 use Rattle.demands.proofs.Cases.{computing}
 
--- what a device is given: a record, its address, its table, and the lent areas
-pub record Input : Type 0 where
-  pub frame : List ℕ
-  pub own : ℕ
-  pub table : List ℕ
-  pub store : List ℕ
-  pub work : List ℕ
-  pub out : List ℕ
+-- ---- P1 to the sample device
 
-abbrev pub Device : Type 0
-Device = List ℕ → ℕ → List ℕ → List ℕ → List ℕ → List ℕ → Outcome
-
-abbrev pub outcome : Device → Input → Outcome
-outcome D i = D (i .frame) (i .own) (i .table) (i .store) (i .work) (i .out)
-
--- a device does what the definitions say, on every input
-abbrev pub Meets : Device → Type 0
-Meets D = (i : Input) → outcome D i ≡ outcome stepOf i
-
--- the frames that the definitions answer
-abbrev pub framesFor : Input → List (List ℕ)
-framesFor i =
-    answer (settingOf (i .own) (i .table) (i .store) (i .work) (i .out)) (i .frame) (record { store = i .store; work = i .work }) .frames
-
--- P1 to the sample device, and what comes of it
-abbrev pub atP1 : Input
-atP1 = record { frame = p1; own = sample .own; table = sample .table; store = fresh .store; work = fresh .work; out = replicate 640 0 }
+abbrev pub atP1 : Call
+atP1 = toSample p1
 
 abbrev pub afterP1 : Outcome
-afterP1 = record { number = 0; count = 1; store = p1Store; work = fresh .work; output = put (replicate 640 0) 0 p1Answer }
+afterP1 = outcome 0 1 (areas p1Store (fresh .work)) (put freshOut 0 p1Answer)
 
-p1-computed : outcome stepOf atP1 ≡ afterP1
-unfolding computing stepWith stepOf
-p1-computed = refl
+-- no check refuses it
+unrefused : (n : ℕ) → holdsAt (checksOf atP1) n ≡ false
+unfolding computing
+unrefused = none-holds (checksOf atP1) refl .0 refl
 
-module _ (D : Device) (meets : Meets D) where
-  pub p1-met : outcome D atP1 ≡ afterP1
-  p1-met = meets atP1 ∙ p1-computed
+-- what a search finds and a frame says, by its places
+offsetOf : Found → ℕ
+offsetOf (At a) = a .offset
+offsetOf Nothing = 0
+
+plainBytes : Answer → List ℕ
+plainBytes (Got (Short dir address service)) = []
+plainBytes (Got (Plain u b)) = bytesOf b
+plainBytes (Got (Fragment u number total b)) = []
+plainBytes (Refused n) = []
+
+module _ (D : Device) (meets : Demand2 D) where
+  -- demand 2 leaves one outcome
+  pub p1-met : D atP1 ≡ afterP1
+  unfolding computing readOf offsetOf plainBytes outcomeOf
+  p1-met = go (meets .serves atP1 unrefused)
+    where
+      go : Served atP1 (D atP1) → D atP1 ≡ afterP1
+      go (read z) = let q : _≡_ {A = ℕ} 4 5 = z .asked in absurd (omega arith)
+      go (written z) =
+          let at : z .attribute .offset ≡ 33 = ap offsetOf (sym (z .named)) in
+          let bytes : bytesOf (z .body) ≡ 0x2C ∷ 0x01 ∷ [] = ap plainBytes (sym (z .says)) in
+          z .leaves ∙ rw (at, bytes)
+      go (fragment z) = let q : _≡_ {A = ℕ} 2 0 = ap (λ (m : Answer). length (plainBytes m)) (z .says) in absurd (omega arith)
 
   -- "One that always answers 4"
-  pub always-four : ((i : Input) → outcome D i .number ≡ 4) → ⊥
+  pub always-four : ((c : Call) → D c .number ≡ 4) → ⊥
   always-four four = omega (arith, ap (λ o. o .number) p1-met, four atP1)
 
   -- "one that always answers 0 with no frames"
-  pub always-silent : ((i : Input) → (outcome D i .number ≡ 0) × (outcome D i .count ≡ 0)) → ⊥
+  pub always-silent : ((c : Call) → (D c .number ≡ 0) × (D c .count ≡ 0)) → ⊥
   always-silent silent = omega (arith, ap (λ o. o .count) p1-met, silent atP1 .1)
 
   -- "one that touches nothing"
-  pub touches-nothing :
-      ((i : Input) → (outcome D i .store ≡ i .store) × (outcome D i .work ≡ i .work) × (outcome D i .output ≡ i .out)) → ⊥
+  pub touches-nothing : ((c : Call) → (D c .left ≡ c .given) × (D c .out ≡ c .out)) → ⊥
   unfolding put fresh
   touches-nothing untouched =
-      let z : _≡_ {A = ℕ} 0x2C 0 = ap (λ l. getD l 33 0) (sym (ap (λ o. o .store) p1-met) ∙ untouched atP1 .0) in omega arith
+      let z : _≡_ {A = ℕ} 0x2C 0 = ap (λ x. getD (x .store) 33 0) (sym (ap (λ o. o .left) p1-met) ∙ untouched atP1 .0) in omega arith
 
-  -- demand 2 "ties the count to the records written"
-  pub count-tied : (i : Input) → (outcome D i .count ≡ length (framesFor i)) × (outcome D i .output ≡ sent (framesFor i) (i .out))
-  unfolding stepWith stepOf
-  count-tied i = (ap (λ o. o .count) (meets i), ap (λ o. o .output) (meets i))
+  -- "One that makes up the frame count": whatever it counts at a call, demand 2 "ties the count to the records written"
+  pub counts-by-itself : (c : Call) (made-up : ℕ) → D c .count ≡ made-up → made-up ≢ length (framesFor c) → ⊥
+  counts-by-itself c made-up counts other = other (sym counts ∙ meets .sends c .counted)
 
-  -- at P1: one frame, at the front of the output, and the rest of the output is the caller's
-  pub p1-count :
-      (outcome D atP1 .count ≡ 1) × (take 10 (outcome D atP1 .output) ≡ p1Answer) × (drop 10 (outcome D atP1 .output) ≡ drop 10 (atP1 .out))
-  unfolding put
-  p1-count = (ap (λ o. o .count) p1-met, ap (λ o. take 10 (o .output)) p1-met, ap (λ o. drop 10 (o .output)) p1-met)
+-- ---- the sample device, frame by frame
 
-  -- "One that makes up the frame count"
-  pub counts-by-itself : (c : ℕ) → outcome D atP1 .count ≡ c → c ≢ 1 → ⊥
-  counts-by-itself c made-up other = other (sym made-up ∙ p1-count .0)
-
--- ---- over a list of frames, on the sample device
-
--- the store after every list of frames is what the history shows: demand 3's promise
-abbrev pub Shows : (List ℕ → Areas → Areas) → Type 0
-Shows next = (fs : List (List ℕ)) → run next fs fresh .store ≡ shown sample (fresh .store) (reverse fs)
-
--- a fragment whose number is not 0 leaves the store as it is
+-- a device that alters the store at no fragment whose number is not 0
 abbrev pub Acknowledges : (List ℕ → Areas → Areas) → Type 0
 Acknowledges next = (r : List ℕ) (x : Areas) → headerOf r .flag ≡ 1 → byteAt r 4 ≢ 0 → next r x .store ≡ x .store
 
-module _ (next : List ℕ → Areas → Areas) (acknowledges : Acknowledges next) where
+module _ (D : Device) (meets : Demand3 D) (acknowledges : Acknowledges (after D 9 sampleTable freshOut)) where
+  abbrev next : List ℕ → Areas → Areas
+  next = after D 9 sampleTable freshOut
+
   later : (ks : List ℕ) (x : Areas) → run next (map (λ k. tagFragment 2 0x41 (suc k)) ks) x .store ≡ x .store
   unfolding headerOf
   later [] x = refl
   later (k ∷ ks) x = later ks (next (tagFragment 2 0x41 (suc k)) x) ∙ acknowledges (tagFragment 2 0x41 (suc k)) x refl (omega arith)
 
+  shows : (fs : List (List ℕ)) → run next fs fresh .store ≡ shown sample (fresh .store) (reverse fs)
+  unfolding fresh sample
+  shows fs = meets 9 sampleTable freshOut fresh refl .whole-writes fs
+
   -- "One that joins only fragment 0 and afterwards merely acknowledges": object 2's tag never shows
-  pub joins-only-the-first : Shows next → ⊥
-  unfolding computing chain gather completes message
-  joins-only-the-first shows =
+  pub joins-only-the-first : ⊥
+  unfolding computing chain gather message
+  joins-only-the-first =
       let first = tagFragment 2 0x41 0 in
       let tag = map (tagFragment 2 0x41) (upFrom 0 8) in
       let same = sym (shows tag) ∙ later (upFrom 0 7) (next first fresh) ∙ shows (first ∷ []) in

@@ -1,19 +1,15 @@
 -- The cases marked P of the scope page (01, "Sample device"), as one table.
-use Prim.Native.Nat.{ℕ, zero, suc, _+_, _*_}
+use Prim.Native.Nat.{ℕ, _+_, _*_}
 use mathlib.Core.List.{List, [], _∷_, _++_, map, flatMap}
 use Rattle.laws.specs.Bytes.{upFrom}
 use Rattle.laws.specs.Put.{put}
 use Rattle.laws.specs.Mixing.{run, trace}
-use Rattle.guest.specs.Step.{Areas, Reply, next, answer}
+use Rattle.guest.specs.Step.{Areas, areas, Reply, reply, next, answer}
 use Rattle.demands.specs.Sample.{sample, fresh}
 
 -- a record, byte by byte
 abbrev pub frame : ℕ → ℕ → ℕ → ℕ → ℕ → ℕ → ℕ → ℕ → ℕ → ℕ → List ℕ
 frame b0 b1 b2 b3 b4 b5 b6 b7 b8 b9 = b0 ∷ b1 ∷ b2 ∷ b3 ∷ b4 ∷ b5 ∷ b6 ∷ b7 ∷ b8 ∷ b9 ∷ []
-
--- a number and the frames put
-abbrev pub says : ℕ → List (List ℕ) → Reply
-says number frames = record { number = number; frames = frames }
 
 -- one row: the records sent one after another to the sample device with fresh areas, the answer to each, and the areas at the end
 pub record Case : Type 0 where
@@ -24,7 +20,7 @@ pub record Case : Type 0 where
 
 -- one record that alters neither area: its number and the frames put
 abbrev pub only : List ℕ → ℕ → List (List ℕ) → Case
-only r number frames = record { frames = r ∷ []; replies = says number frames ∷ []; store = fresh .store; work = fresh .work }
+only r number frames = record { frames = r ∷ []; replies = reply number frames ∷ []; store = fresh .store; work = fresh .work }
 
 -- with no frame, and with one
 abbrev pub quiet : List ℕ → ℕ → Case
@@ -52,7 +48,7 @@ p1Store = put (fresh .store) 33 (0x2C ∷ 0x01 ∷ [])
 unfoldable pub cases : List Case
 cases =
     -- "P1 Request Write, object 3, ID 10, DLC 4, data 2C 01: 0; store 33, 34 hold 2C 01; one frame, byte 0 is 89 hex"
-    record { frames = p1 ∷ []; replies = says 0 (p1Answer ∷ []) ∷ []; store = p1Store; work = fresh .work }
+    record { frames = p1 ∷ []; replies = reply 0 (p1Answer ∷ []) ∷ []; store = p1Store; work = fresh .work }
     -- "P2 the same with DLC 3: 11"
     ∷ error (frame 0x09 0x83 0x03 0x0A 0x2C 0x00 0x00 0x00 0x00 0x00) 11 (frame 0x89 0x82 0x83 0x0A 0x00 0x00 0x00 0x00 0x00 0x00)
     -- "P3 DLC 9: 3"
@@ -71,7 +67,7 @@ cases =
       frames =
           frame 0x09 0x88 0x22 0x38 0x00 0x20 0x41 0x42 0x43 0x44
           ∷ frame 0x09 0x88 0x22 0x38 0x02 0x20 0x45 0x46 0x47 0x48 ∷ [];
-      replies = says 0 [] ∷ says 14 (frame 0x89 0x82 0x82 0x38 0x00 0x00 0x00 0x00 0x00 0x00 ∷ []) ∷ [];
+      replies = reply 0 [] ∷ reply 14 (frame 0x89 0x82 0x82 0x38 0x00 0x00 0x00 0x00 0x00 0x00 ∷ []) ∷ [];
       store = fresh .store;
       work = put (fresh .work) 520 (0x00 ∷ 0x38 ∷ 0x20 ∷ 0x01 ∷ 0x41 ∷ 0x42 ∷ 0x43 ∷ 0x44 ∷ []);
     }
@@ -89,12 +85,12 @@ descriptors =
     (0x0100, 1) ∷ (0x010F, 2) ∷ (0x0143, 2) ∷ (0x0040, 2) ∷ (0x0110, 4) ∷ (0x073F, 32) ∷ (0x0128, 0) ∷ (0x0000, 0) ∷ []
 
 -- what the definitions make of a row's records
-abbrev pub outcome : Case → List Reply × Areas
-outcome c = (map (λ t. t .1) (trace (next sample) (answer sample) (c .frames) fresh), run (next sample) (c .frames) fresh)
+abbrev pub played : Case → List Reply × Areas
+played c = (map (λ t. t .1) (trace (next sample) (answer sample) (c .frames) fresh), run (next sample) (c .frames) fresh)
 
--- what the row says
+-- what the row reply
 abbrev pub expected : Case → List Reply × Areas
-expected c = (c .replies, record { store = c .store; work = c .work })
+expected c = (c .replies, areas (c .store) (c .work))
 
 -- ---- the tags of objects 2 and 3
 

@@ -2,8 +2,9 @@
 use Prim.Native.Nat.{ℕ}
 use mathlib.Core.List.{List, [], _∷_}
 use lib.ListN.{replicate}
-use Rattle.guest.specs.Checks.{Setting}
-use Rattle.guest.specs.Step.{Areas}
+use Rattle.join.specs.Work.{areaSize}
+use Rattle.guest.specs.Checks.{Setting, leastOut}
+use Rattle.guest.specs.Step.{Areas, areas, Call, call, setting}
 
 unfoldable pub sampleTable : List ℕ
 sampleTable =
@@ -13,8 +14,16 @@ sampleTable =
     ∷ 0x03 ∷ 0x38 ∷ 0x07 ∷ 0x20 ∷ 0x23 ∷ 0x00 ∷ 0x3F ∷ 0x07 ∷ []
 
 -- lent whole: 67 bytes of store, the work area, room for 64 frames
-unfoldable pub sample : Setting
-sample = record { own = 9; table = sampleTable; store = 67; work = 8320; out = 640 }
-
 unfoldable pub fresh : Areas
-fresh = record { store = replicate 67 0; work = replicate 8320 0 }
+fresh = areas (replicate 67 0) (replicate areaSize 0)
+
+unfoldable pub freshOut : List ℕ
+freshOut = replicate leastOut 0
+
+-- a frame sent to it
+abbrev pub toSample : List ℕ → Call
+toSample r = call r 9 sampleTable fresh freshOut
+
+-- and what it is to every frame
+unfoldable pub sample : Setting
+sample = setting 9 sampleTable fresh freshOut

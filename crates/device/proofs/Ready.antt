@@ -1,32 +1,33 @@
 -- Every plan that the checks let through can be carried out.
-use Prim.Native.Nat.{ℕ}
-use mathlib.Core.Path.{_≡_, refl, sym, _∙_}
+use Prim.Native.Nat.{ℕ, _≤_}
+use mathlib.Core.Path.{_≡_, refl, sym, subst, _∙_}
 use mathlib.Core.Bool.{false}
 use mathlib.Mathlib.Data.Bool.Basic.{or-eq-false-eq-eq-false-and-eq-false as neither}
 use mathlib.Core.List.{List}
 use native.Mathlib.Omega.{arith}
-use lib.Dec.{eqb, leb, ltb}
-use borrow.Author.Tests.{eqb-true, ltb-false, leb-false}
+use lib.Dec.{ltb}
+use borrow.Author.Tests.{ltb-false}
 use Rattle.laws.specs.Checks.{firstOf, holdsAt}
-use Rattle.laws.proofs.Tests.{split}
-use Rattle.laws.proofs.Checks.{given-exactly, none-holds}
+use Rattle.laws.proofs.Checks.{none-holds}
 use Rattle.octets.proofs.Datas.{tidy-most, bytes-length}
 use Rattle.codec.specs.declared.Header.{Header}
+use Rattle.codec.specs.Names.{mostAddress}
 use Rattle.codec.specs.Fields.{headerOf}
 use Rattle.codec.proofs.Headers.{ranged}
 use Rattle.guest.specs.declared.Plan.{Plan}
-use Rattle.guest.specs.declared.Plan.the-variants.{Quiet, Error, Read, Write, Join}
-use Rattle.guest.specs.Checks.{Setting, misfit, noService, planChecks}
-use Rattle.guest.specs.Step.{planOf}
-use Rattle.guest.proofs.Plans.{fit, Sound, sound}
+use Rattle.guest.specs.declared.Plan.the-variants.{Error, Read, Write, Join}
+use Rattle.guest.specs.Checks.{Setting, misfit, noService}
+use Rattle.guest.specs.Step.{asks, judgedOf}
+use Rattle.guest.proofs.Plans.{accepted, Sound, SoundJudged, sound}
+use Rattle.judge.specs.Code.{quietChecks}
 use Rattle.answers.specs.Code.{Answerable}
 use Rattle.writes.specs.Code.{KeepReady}
 use Rattle.device.specs.Code.{Ready}
 
 -- a frame that gets an answer frame has passed checks 1 and 5
-answerable : (s : Setting) (r : List ℕ) → misfit s r ≡ false → noService (headerOf r) ≡ false → Answerable (s .own) (headerOf r) (s .out)
+answerable : (s : Setting) (r : List ℕ) → misfit s r ≡ false → noService (headerOf r) ≡ false → Answerable (s .own) (headerOf r) (s .outLen)
 answerable s r m n =
-    let f = fit s r m in
+    let f = accepted s r m in
     record {
       address = f .own;
       named = ltb-false (headerOf r .service) 4 (neither (ltb (headerOf r .dlc) 2) (ltb (headerOf r .service) 4) .0 n .1);
@@ -35,39 +36,35 @@ answerable s r m n =
       room = f .out;
     }
 
-sound-ready : (s : Setting) (h : Header) (p : Plan) → Answerable (s .own) h (s .out) → Sound s h p → Ready p (s .own) h (s .store) (s .work) (s .out)
-sound-ready s h (Quiet n) w z = tt
+sound-ready : (s : Setting) (h : Header) (p : Plan) → Answerable (s .own) h (s .outLen) → Sound s h p → Ready p (s .own) h (s .storeLen) (s .workLen) (s .outLen)
 sound-ready s h (Error n o) w z = w
 sound-ready s h (Read a) w z = (w, z .place .fits .short)
 sound-ready s h (Write a b) w z = (
   w,
   record {
-    inside = z .place .inside;
+    inside = z .its .place .inside;
     whole = sym (bytes-length b (z .tidied)) ∙ z .whole;
     bytes = tidy-most 6 b (z .tidied);
   },
 )
 sound-ready s h (Join a number total b) w z =
-    let keep : KeepReady a number total b (s .work) = record {
-      area = z .work;
-      object = z .place .fits .object;
+    let keep : KeepReady a number total b (s .workLen) = record {
+      area = z .its .area;
+      object = z .its .place .fits .object;
       whole = z .total-len;
-      bytes = tidy-most 4 b (z .tidied);
-      shaped = z .shaped;
+      bytes = omega (arith, tidy-most 4 b (z .tidied));
+      fits = z .fits;
     } in
-    (w, (keep, z .place .inside))
+    (w, (keep, z .its .place .inside))
 
-pub ready : (s : Setting) (r : List ℕ) → Ready (planOf s r) (s .own) (headerOf r) (s .store) (s .work) (s .out)
-unfolding planOf holdsAt
-ready s r =
-    let n = firstOf (planChecks s r) in
-    split (eqb n 0)
-    (λ t.
-    let u = none-holds (planChecks s r) refl .0 (eqb-true n 0 t) in
-    sound-ready s (headerOf r) (planOf s r) (answerable s r (u 1) (u 5)) (sound s r))
-    (λ t. split (leb n 6)
-    (λ q. simp (t, q) tt)
-    (λ q.
-    let l = leb-false n 6 q in
-    let f = given-exactly (planChecks s r) refl n (omega arith) .0 refl in
-    simp (t, q) (answerable s r (f .1 1 (omega arith)) (f .1 5 (omega arith)))))
+-- checks 1 to 6 let a frame pass to its plan
+pub ready : (s : Setting) (r : List ℕ) → firstOf (quietChecks s r) ≡ 0 → (p : Plan) → judgedOf s r ≡ asks p
+    → Ready p (s .own) (headerOf r) (s .storeLen) (s .workLen) (s .outLen)
+unfolding holdsAt
+ready s r e p j =
+    let none = none-holds (quietChecks s r) refl .0 e in
+    sound-ready s (headerOf r) p (answerable s r (none 1) (none 5)) (subst (SoundJudged s (headerOf r)) j (sound s r))
+
+pub own-most : (s : Setting) (r : List ℕ) → firstOf (quietChecks s r) ≡ 0 → s .own ≤ mostAddress
+unfolding holdsAt
+own-most s r e = accepted s r (none-holds (quietChecks s r) refl .0 e 1) .own

@@ -4,7 +4,8 @@ ghost use lib.ListN.{length};
 ghost use Rattle.table.specs.Table.{partOf};
 ghost use Rattle.answers.specs.Code.{Answerable, partCount, partSent};
 ghost use Rattle.writes.specs.Code.{JoinReady};
-ghost use Rattle.device.specs.Code.{Ready, outcome, carriedOut};
+ghost use Rattle.guest.specs.Step.{areas, outcome};
+ghost use Rattle.device.specs.Code.{Ready, carriedOut};
 use crate::Reply;
 use codec::Header;
 use guest::Plan;
@@ -32,19 +33,19 @@ fn apply_join(
     out: &mut [u8],
 ) -> Reply
     requires { ⌜ Answerable own h (length (now out)) × JoinReady to number total body (length (now store)) (length (now work)) ⌝ }
-    ensures { λ r. ⌜ outcome (r .number) (r .count) (now (store .exit)) (now (work .exit)) (now (out .exit))
-        ≡ carriedOut own h (Plan.Join to number total body) (now (store .entry)) (now (work .entry)) (now (out .entry)) ⌝ }
+    ensures { λ r. ⌜ outcome (r .number) (r .count) (areas (now (store .exit)) (now (work .exit))) (now (out .exit))
+        ≡ carriedOut (Plan.Join to number total body) own h (areas (now (store .entry)) (now (work .entry))) (now (out .entry)) ⌝ }
 {
     let at = join::place_of(to.object);
-    if join::is_astray(work, at, to.id, total, number) {
+    if join::is_astray(work, at, guest::FRAGMENT_BYTES, to.id, total, number) {
         join::clear(work, at);
-        answers::refuse(own, h, out);
+        answers::refuse(own, h, 14, out);
         return Reply {
             number: 14,
             count: 1,
         };
     }
-    if join::is_last(total, number) {
+    if join::is_last(guest::FRAGMENT_BYTES, total, number) {
         writes::store_joined(to, number, body, work, store);
         join::clear(work, at);
         answers::acknowledge(own, h, out);
@@ -70,13 +71,12 @@ pub(crate) fn apply(
     out: &mut [u8],
 ) -> Reply
     requires { ⌜ Ready plan own h (length (now store)) (length (now work)) (length (now out)) ⌝ }
-    ensures { λ r. ⌜ outcome (r .number) (r .count) (now (store .exit)) (now (work .exit)) (now (out .exit))
-        ≡ carriedOut own h plan (now (store .entry)) (now (work .entry)) (now (out .entry)) ⌝ }
+    ensures { λ r. ⌜ outcome (r .number) (r .count) (areas (now (store .exit)) (now (work .exit))) (now (out .exit))
+        ≡ carriedOut plan own h (areas (now (store .entry)) (now (work .entry))) (now (out .entry)) ⌝ }
 {
     match plan {
-        Plan::Quiet(number) => Reply { number, count: 0 },
         Plan::Error { number, object: _ } => {
-            answers::refuse(own, h, out);
+            answers::refuse(own, h, number, out);
             Reply { number, count: 1 }
         }
         Plan::Read(a) => {

@@ -1,11 +1,10 @@
 // One call: checks 1 to 6 put no frame and are answered at once; what else is asked for is a plan, which is carried out.
 ghost use mathlib.Core.Path.{_≡_};
-ghost use Rattle.guest.specs.Step.{stepOf};
-ghost use Rattle.device.specs.Code.{outcome};
+ghost use Rattle.guest.specs.Step.{areas, call, outcome, stepOf};
 use crate::Reply;
 use crate::applying::apply;
 
-// What 01 says of one frame, for every input of any length. Own address is 32 bits wide, so that 265 is refused and not taken for 9.
+// What 01 says of one frame, for every input of any length.
 pub fn step(
     frame: &[u8],
     own: u32,
@@ -14,8 +13,8 @@ pub fn step(
     work: &mut [u8],
     out: &mut [u8],
 ) -> Reply
-    ensures { λ r. ⌜ outcome (r .number) (r .count) (now (store .exit)) (now (work .exit)) (now (out .exit))
-        ≡ stepOf (now (frame .entry)) own (now (table .entry)) (now (store .entry)) (now (work .entry)) (now (out .entry)) ⌝ }
+    ensures { λ r. ⌜ outcome (r .number) (r .count) (areas (now (store .exit)) (now (work .exit))) (now (out .exit))
+        ≡ stepOf (call (now (frame .entry)) own (now (table .entry)) (areas (now (store .entry)) (now (work .entry))) (now (out .entry))) ⌝ }
 {
     if judge::misfit(frame, own, table, store.len(), work.len(), out.len()) {
         return Reply {
@@ -31,12 +30,9 @@ pub fn step(
         };
     }
     let h = codec::header_of(frame);
-    let n = judge::route_number(h, own);
-    if n != 0 {
-        return Reply {
-            number: n,
-            count: 0,
-        };
+    let number = judge::route_number(h, own);
+    if number != 0 {
+        return Reply { number, count: 0 };
     }
     let plan = judge::request_plan(frame, h, table);
     apply(plan, own as u8, h, store, work, out)

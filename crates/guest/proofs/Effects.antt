@@ -1,53 +1,52 @@
 -- What each number alters.
-use Prim.Native.Nat.{ℕ, _+_, _≤_, _<_}
-use mathlib.Core.Path.{_≡_, refl, sym, ap, subst, _∙_}
-use mathlib.Core.Bool.{Bool, true, false, cond}
-use mathlib.Core.List.{List, [], _∷_, _++_, append-nil}
+use Prim.Native.Nat.{ℕ, _≤_}
+use mathlib.Core.Path.{_≡_, refl, ap}
+use mathlib.Core.Option.{none, some}
+use mathlib.Core.List.{List, [], _∷_}
 use native.Mathlib.Omega.{arith}
-use lib.ListN.{length, drop}
 use lib.Dec.{eqb, leb}
-use borrow.Author.Tests.{eqb-true, eqb-false, leb-true, leb-false}
+use borrow.Author.Tests.{eqb-false, leb-true, leb-false}
 use Rattle.laws.specs.Checks.{firstOf}
-use Rattle.laws.specs.Put.{put}
-use Rattle.laws.proofs.Tests.{split, clash}
+use Rattle.laws.proofs.Tests.{split}
 use Rattle.laws.proofs.Checks.{first-most}
 use Rattle.laws.proofs.Put.{put-nothing}
-use Rattle.octets.specs.declared.Data.{Data}
 use Rattle.codec.specs.declared.Header.{Header}
 use Rattle.codec.specs.declared.Message.{Message}
 use Rattle.codec.specs.declared.Message.the-variants.{Short, Plain, Fragment}
 use Rattle.codec.specs.Names.{readService}
 use Rattle.codec.specs.Fields.{headerOf}
 use Rattle.codec.specs.Reading.{messageOf}
-use Rattle.table.specs.declared.Attribute.{Attribute}
 use Rattle.table.specs.declared.Found.{Found}
 use Rattle.table.specs.declared.Found.the-variants.{At, Nothing}
-use Rattle.join.specs.Work.{Joined, kept, done, lost, base, areaAfter}
+use Rattle.join.specs.Work.{Piece, Joined, kept, done, lost, base, dropped}
 use Rattle.guest.specs.declared.Plan.{Plan}
-use Rattle.guest.specs.declared.Plan.the-variants.{Quiet, Error, Read, Write, Join}
+use Rattle.guest.specs.declared.Plan.the-variants.{Error, Read, Write, Join}
 use Rattle.guest.specs.Checks.{Setting, pieceOf, soughtIn, planChecks}
-use Rattle.guest.specs.Step.{served, servedWrite, refused, planOf, Areas, joinedAt, perform, errorFrame, Reply, joinReply, replyTo, next, answer, sent, Outcome, outcomeOf, stepWith}
-use Rattle.guest.proofs.Plans.{Sound, sound}
+use Rattle.guest.specs.Step.{served, servedWrite, Judged, quiet, asks, judgedOf, ignore, refuse, joinEffect, planEffect, effectOf, joinedIn, Areas, areas, perform, errorFrame, replyTo, effectIn, answer, sent, outcome, outcomeOf}
+use Rattle.guest.proofs.Plans.{Sound, SoundJudged, sound}
 
--- a plan's own number is in its range
-abbrev pub InRange : Plan → Type 0
-InRange (Quiet n) = (1 ≤ n) × (n ≤ 6)
-InRange (Error n object) = (7 ≤ n) × (n ≤ 13)
-InRange (Read a) = Unit {0}
-InRange (Write a b) = Unit {0}
-InRange (Join a number total b) = Unit {0}
+-- the number of what is refused is in its range
+abbrev PlanInRange : Plan → Type 0
+PlanInRange (Error n object) = (7 ≤ n) × (n ≤ 13)
+PlanInRange (Read a) = Unit {0}
+PlanInRange (Write a b) = Unit {0}
+PlanInRange (Join a number total b) = Unit {0}
 
-served-in-range : (h : Header) (m : Message) (f : Found) → InRange (served h m f)
+abbrev InRange : Judged → Type 0
+InRange (quiet n) = (1 ≤ n) × (n ≤ 6)
+InRange (asks p) = PlanInRange p
+
+served-in-range : (h : Header) (m : Message) (f : Found) → PlanInRange (served h m f)
 served-in-range h m Nothing = omega arith
 served-in-range h m (At a) = split (eqb (h .service) readService) (λ t. simp t tt) (λ t. simp t (go m))
   where
-    go : (m : Message) → InRange (servedWrite a m)
+    go : (m : Message) → PlanInRange (servedWrite a m)
     go (Short d q v) = omega arith
     go (Plain u b) = tt
     go (Fragment u number total b) = tt
 
-pub in-range : (s : Setting) (r : List ℕ) → InRange (planOf s r)
-unfolding planOf
+in-range : (s : Setting) (r : List ℕ) → InRange (judgedOf s r)
+unfolding judgedOf
 in-range s r =
     let n = firstOf (planChecks s r) in
     split (eqb n 0)
@@ -57,70 +56,53 @@ in-range s r =
     let m : n ≤ 13 = first-most 13 (planChecks s r) refl in
     split (leb n 6) (λ q. simp (t, q) (omega (arith, leb-true n 6 q))) (λ q. simp (t, q) (omega (arith, leb-false n 6 q))))
 
--- what a reply's number says of the plan
+-- what a reply's number says of the effect
 pub data Kind (s : Setting) (r : List ℕ) (x : Areas) (n : ℕ) : Type 0 where
-  quiet : 1 ≤ n → n ≤ 6 → planOf s r ≡ Quiet n → Kind s r x n
-  error : 7 ≤ n → n ≤ 13 → planOf s r ≡ Error n (headerOf r .object) → Kind s r x n
+  mute : 1 ≤ n → n ≤ 6 → effectIn s r x ≡ ignore n → Kind s r x n
+  error : 7 ≤ n → n ≤ 13 → effectIn s r x ≡ refuse n none → Kind s r x n
+  astray : n ≡ 14 → effectIn s r x ≡ refuse 14 (some (headerOf r .object)) → Kind s r x n
   fine : n ≡ 0 → Kind s r x n
-  astray : n ≡ 14 → (a : Attribute) (number total : ℕ) (b : Data) → planOf s r ≡ Join a number total b
-      → joinedAt a number total b (x .work) ≡ lost → a .object ≡ headerOf r .object → Kind s r x n
 
 pub kind : (s : Setting) (r : List ℕ) (x : Areas) → Kind s r x (answer s r x .number)
 unfolding replyTo
-kind s r x = go (planOf s r) refl (in-range s r) (sound s r)
+kind s r x = go (judgedOf s r) refl (in-range s r) (sound s r)
   where
-    go : (p : Plan) → planOf s r ≡ p → InRange p → Sound s (headerOf r) p → Kind s r x (replyTo (s .own) (headerOf r) p x .number)
-    go (Quiet n) e i z = quiet (i .0) (i .1) e
-    go (Error n o) e i z = error (i .0) (i .1) (e ∙ ap (Error n) z)
-    go (Read a) e i z = fine refl
-    go (Write a b) e i z = fine refl
-    go (Join a number total b) e i z = by (joinedAt a number total b (x .work)) refl
+    plan : (p : Plan) → judgedOf s r ≡ asks p → PlanInRange p → Sound s (headerOf r) p
+        → Kind s r x (replyTo (s .own) (headerOf r) (planEffect (joinedIn (x .work)) p) (x .store) .number)
+    plan (Error n o) e i z = error (i .0) (i .1) (rw e)
+    plan (Read a) e i z = fine refl
+    plan (Write a b) e i z = fine refl
+    plan (Join a number total b) e i z = by (joinedIn (x .work) a k) refl
       where
-        by : (j : Joined) → joinedAt a number total b (x .work) ≡ j → Kind s r x (joinReply (s .own) (headerOf r) j .number)
+        k : Piece
+        k = pieceOf (a .id) number total b
+
+        by : (j : Joined) → joinedIn (x .work) a k ≡ j → Kind s r x (replyTo (s .own) (headerOf r) (joinEffect a k j) (x .store) .number)
         by kept q = fine refl
         by (done bs) q = fine refl
-        by lost q = astray refl a number total b e q (z .place .its-object)
+        by lost q = astray refl (rw (e, q, z .its .object))
 
-module _ (s : Setting) (r : List ℕ) (x : Areas) (out : List ℕ) where
-  -- 1 to 6 alter nothing
-  pub quiet-outcome : 1 ≤ answer s r x .number → answer s r x .number ≤ 6
-      → stepWith s r x out ≡ record { number = answer s r x .number; count = 0; store = x .store; work = x .work; output = out }
-  unfolding stepWith perform replyTo
-  quiet-outcome l h = go (kind s r x)
-    where
-      go : Kind s r x (answer s r x .number)
-          → stepWith s r x out ≡ record { number = answer s r x .number; count = 0; store = x .store; work = x .work; output = out }
-      go (quiet a b e) = rw e (ap (λ (o : List ℕ). record { number = answer s r x .number; count = 0; store = x .store; work = x .work; output = o }) (put-nothing out))
-      go (error a b e) = absurd (omega arith)
-      go (fine e) = absurd (omega arith)
-      go (astray e a number total b p j o) = absurd (omega arith)
+    go : (p : Judged) → judgedOf s r ≡ p → InRange p → SoundJudged s (headerOf r) p
+        → Kind s r x (replyTo (s .own) (headerOf r) (effectOf (joinedIn (x .work)) p) (x .store) .number)
+    go (quiet n) e i z = mute (i .0) (i .1) (rw e)
+    go (asks p) e i z = plan p e i z
 
-  -- 7 to 13 put one error frame in front of the output, and alter nothing else
-  pub error-outcome : 7 ≤ answer s r x .number → answer s r x .number ≤ 13
-      → stepWith s r x out
-      ≡ record { number = answer s r x .number; count = 1; store = x .store; work = x .work; output = sent (errorFrame (s .own) (headerOf r) ∷ []) out }
-  unfolding stepWith perform replyTo
-  error-outcome l h = go (kind s r x)
-    where
-      go : Kind s r x (answer s r x .number)
-          → stepWith s r x out
-          ≡ record { number = answer s r x .number; count = 1; store = x .store; work = x .work; output = sent (errorFrame (s .own) (headerOf r) ∷ []) out }
-      go (quiet a b e) = absurd (omega arith)
-      go (error a b e) = rw e
-      go (fine e) = absurd (omega arith)
-      go (astray e a number total b p j o) = absurd (omega arith)
+-- ---- what the refusing effects leave
 
-  -- 14 puts the same frame, and sets its object's status byte to 0
-  pub astray-outcome : answer s r x .number ≡ 14
-      → stepWith s r x out
-      ≡ record { number = 14; count = 1; store = x .store; work = put (x .work) (base (headerOf r .object)) (0 ∷ []); output = sent (errorFrame (s .own) (headerOf r) ∷ []) out }
-  unfolding stepWith perform replyTo areaAfter
-  astray-outcome q = go (kind s r x)
-    where
-      go : Kind s r x (answer s r x .number)
-          → stepWith s r x out
-          ≡ record { number = 14; count = 1; store = x .store; work = put (x .work) (base (headerOf r .object)) (0 ∷ []); output = sent (errorFrame (s .own) (headerOf r) ∷ []) out }
-      go (quiet a b e) = absurd (omega arith)
-      go (error a b e) = absurd (omega arith)
-      go (fine e) = absurd (omega arith)
-      go (astray e a number total b p j o) = simp (p, j, o)
+module _ (own : ℕ) (h : Header) (x : Areas) (out : List ℕ) where
+  -- nothing alters
+  pub ignored : (n : ℕ) → outcomeOf own h (ignore n) x out ≡ outcome n 0 x out
+  unfolding outcomeOf perform replyTo
+  ignored n = ap (outcome n 0 x) (put-nothing out 0)
+
+  -- one error frame is put in front of the output, and nothing else alters
+  pub refused-only : (n : ℕ) → outcomeOf own h (refuse n none) x out ≡ outcome n 1 x (sent (errorFrame own h n ∷ []) out)
+  unfolding outcomeOf perform replyTo
+  refused-only n = refl
+
+  -- the same, and an object's record is dropped
+  pub refused-dropping : (n object : ℕ)
+      → outcomeOf own h (refuse n (some object)) x out
+      ≡ outcome n 1 (areas (x .store) (dropped (base object) (x .work))) (sent (errorFrame own h n ∷ []) out)
+  unfolding outcomeOf perform replyTo
+  refused-dropping n object = refl

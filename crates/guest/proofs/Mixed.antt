@@ -1,234 +1,279 @@
 -- Each frame touches and tells what belongs to its object only.
-use Prim.Native.Nat.{ℕ, _+_, _*_, _/_, _≤_, _<_}
+use Prim.Native.Nat.{ℕ, _+_, _≤_, _<_}
 use mathlib.Core.Path.{_≡_, refl, sym, ap, subst, _∙_}
-use mathlib.Core.Logic.{_≢_, _⊎_, inl, inr, ⊎-elim}
-use mathlib.Core.Bool.{Bool, true, false, cond}
+use mathlib.Core.Logic.{_≢_}
+use mathlib.Core.Bool.{true, false}
 use mathlib.Core.Option.{Option, none, some}
-use mathlib.Core.List.{List, [], _∷_}
+use mathlib.Core.List.{List}
 use native.Mathlib.Omega.{arith}
-use lib.ListN.{length, take, drop}
+use lib.ListN.{length}
 use lib.Seq.{ext-getD}
-use lib.Dec.{leb}
-use borrow.Author.Tests.{le-leb}
-use Rattle.laws.specs.Put.{put, Agree}
+use Rattle.laws.specs.Put.{Agree}
 use Rattle.laws.proofs.Put.{length-put, untouched, put-both, same-part}
 use Rattle.laws.proofs.Mixing.{Local}
-use Rattle.octets.specs.declared.Data.{Data}
-use Rattle.octets.specs.Data.{bytesOf}
 use Rattle.codec.specs.declared.Header.{Header}
 use Rattle.codec.specs.Fields.{headerOf}
-use Rattle.codec.proofs.Headers.{ranged}
 use Rattle.table.specs.declared.Attribute.{Attribute}
 use Rattle.table.specs.Table.{attributes, endOf, partOf, ownerIn}
-use Rattle.table.proofs.Tables.{Placed}
-use Rattle.join.specs.Work.{Piece, Work, Joined, kept, done, lost, base, load, joined, areaAfter}
-use Rattle.join.proofs.Records.{area-length, area-outside, area-both, load-same, held-size, AsLong, joined-length}
+use Rattle.table.proofs.Tables.{Placed, part-is}
+use Rattle.join.specs.Work.{recordSize, recordCount, areaSize, base, recordOf, Piece, load, Joined, kept, done, lost, joined}
+use Rattle.join.specs.History.{Fit}
+use Rattle.join.proofs.Places.{base-inside, in-record}
+use Rattle.join.proofs.Records.{area-length, area-outside, area-both, dropped-length, dropped-outside, dropped-both, load-same, held-size, AsLong, joined-length}
 use Rattle.guest.specs.declared.Plan.{Plan}
-use Rattle.guest.specs.declared.Plan.the-variants.{Quiet, Error, Read, Write, Join}
-use Rattle.guest.specs.Checks.{Setting, pieceOf}
-use Rattle.guest.specs.Step.{planOf, objectOf, Areas, storeAfter, joinedAt, perform, readFrames, Reply, joinReply, replyTo, next, answer, object}
+use Rattle.guest.specs.declared.Plan.the-variants.{Error, Read, Write, Join}
+use Rattle.guest.specs.Checks.{Setting, joiner, pieceOf}
+use Rattle.guest.specs.Step.{Judged, quiet, asks, judgedOf, planOwner, owner, Effect, ignore, refuse, show, write, keep, joinEffect, planEffect, effectOf, joinedIn, Areas, storeAfter, workAfter, perform, readFrames, Reply, reply, replyTo, next, answer, ownerOf}
 use Rattle.guest.specs.Belongs.{inPart, inRecord, Same, Good}
-use Rattle.guest.proofs.Plans.{Sound, sound, ForRead, ForWrite, ForJoin}
+use Rattle.guest.proofs.Plans.{Its, Sound, SoundJudged, sound}
 
 same-refl : (t : List ℕ) (o : ℕ) (x : Areas) → Same t o x x
 same-refl t o x = record { store = λ i p. refl; work = λ i p. refl }
 
 -- an object's record has room in the work area
-pub room : (o : ℕ) (w : List ℕ) → o ≤ 31 → length w ≡ 8320 → base o + 260 ≤ length w
-room o w h e = omega arith
+pub room : (o : ℕ) (w : List ℕ) → o ≤ 31 → length w ≡ areaSize → base o + recordSize ≤ length w
+room o w h e = rw e (base-inside o h)
 
-module _ (s : Setting) (h : Header) where
-  -- ---- bytes put into an attribute's part
-  module _ (a : Attribute) (bs : List ℕ) (pl : Placed 0 (attributes (s .table)) (s .store) (h .object) (h .id) a) (n : length bs ≡ a .len) where
-    inside : (x : Areas) → Good s x → a .offset + length bs ≤ length (x .store)
-    inside x g = omega (arith, pl .inside, g .store)
+-- ---- effects of one object's frames
 
-    part-other : (o : ℕ) → o ≢ h .object → (x : Areas) → Good s x → Agree (inPart (s .table) o) (put (x .store) (a .offset) bs) (x .store)
-    part-other o ne x g =
-        untouched (inPart (s .table) o) (x .store) (a .offset) bs (inside x g)
-        (λ i l k p. ne (sym p ∙ pl .its i l (omega arith) ∙ pl .its-object))
+module _ (s : Setting) (o : ℕ) where
+  -- an attribute of the object, in a work area of its size
+  record Owned (a : Attribute) : Type 0 where
+    object : a .object ≡ o
+    place : Placed (attributes (s .table)) (s .storeLen) a
+    area : s .workLen ≡ areaSize
 
-    part-own : (x y : Areas) → Good s x → Good s y → (o : ℕ) → Same (s .table) o x y
-        → Agree (inPart (s .table) o) (put (x .store) (a .offset) bs) (put (y .store) (a .offset) bs)
-    part-own x y gx gy o e = put-both (inPart (s .table) o) (x .store) (y .store) (a .offset) bs (inside x gx) (inside y gy) (e .store)
+  -- the record of an object's half-built message
+  record Half (q : ℕ) : Type 0 where
+    object : q ≡ o
+    below : q ≤ 31
+    area : s .workLen ≡ areaSize
 
-  -- ---- a fragment
-  module _ (a : Attribute) (number total : ℕ) (b : Data) (z : ForJoin s h a number total b) where
-    piece : Piece
-    piece = pieceOf (a .id) number total b
+  -- what an effect keeps to
+  abbrev Within : Effect → Type 0
+  Within (ignore n) = Unit {0}
+  Within (refuse n none) = Unit {0}
+  Within (refuse n (some q)) = Half q
+  Within (show a) = Owned a
+  Within (write a bs ends) = Owned a × (length bs ≡ a .len)
+  Within (keep a p) = Owned a × Fit joiner p
 
-    pub record-room : (x : Areas) → Good s x → base (a .object) + 260 ≤ length (x .work)
-    record-room x g = room (a .object) (x .work) (z .place .fits .object) (g .work ∙ z .work)
+  half : (a : Attribute) → Owned a → Half (a .object)
+  half a z = record { object = z .object; below = z .place .fits .object; area = z .area }
 
-    pub as-long : (x : Areas) → Good s x → AsLong total (joinedAt a number total b (x .work))
-    unfolding joinedAt
-    as-long x g = joined-length 4 (pieceOf (a .id) number total b) (z .shaped) (load (base (a .object)) (x .work)) (held-size (base (a .object)) (x .work) (record-room x g))
+  inside : (a : Attribute) (bs : List ℕ) → Owned a → length bs ≡ a .len → (x : Areas) → Good s x → a .offset + length bs ≤ length (x .store)
+  inside a bs z n x g = omega (arith, z .place .inside, g .store)
 
-    -- two areas that agree on the object's record give the joiner the same
-    pub joined-same : (x y : Areas) → Good s x → Good s y → Same (s .table) (a .object) x y
-        → joinedAt a number total b (x .work) ≡ joinedAt a number total b (y .work)
-    unfolding joinedAt
-    joined-same x y gx gy e =
-        ap (joined 4 (pieceOf (a .id) number total b))
-        (load-same (base (a .object)) (inRecord (a .object)) (λ i l k. omega arith) (x .work) (y .work) (record-room x gx) (record-room y gy) (e .work))
+  record-room : (q : ℕ) → Half q → (x : Areas) → Good s x → base q + recordSize ≤ length (x .work)
+  record-room q z x g = room q (x .work) (z .below) (g .work ∙ z .area)
 
-    store-length : (x : Areas) → Good s x → (j : Joined) → AsLong total j → length (storeAfter a j (x .store)) ≡ s .store
-    store-length x g kept l = g .store
-    store-length x g lost l = g .store
-    store-length x g (done bs) l = length-put (x .store) (a .offset) bs (inside a bs (z .place) (l ∙ z .total-len) x g) ∙ g .store
+  -- lengths stay
+  store-length : (e : Effect) → Within e → (x : Areas) → Good s x → length (storeAfter e (x .store)) ≡ length (x .store)
+  store-length (ignore n) z x g = refl
+  store-length (refuse n d) z x g = refl
+  store-length (show a) z x g = refl
+  store-length (write a bs ends) z x g = length-put (x .store) (a .offset) bs (inside a bs (z .0) (z .1) x g)
+  store-length (keep a p) z x g = refl
 
-    store-other : (o : ℕ) → o ≢ h .object → (x : Areas) → Good s x → (j : Joined) → AsLong total j
-        → Agree (inPart (s .table) o) (storeAfter a j (x .store)) (x .store)
-    store-other o ne x g kept l = λ i p. refl
-    store-other o ne x g lost l = λ i p. refl
-    store-other o ne x g (done bs) l = part-other a bs (z .place) (l ∙ z .total-len) o ne x g
+  work-length : (e : Effect) → Within e → (x : Areas) → Good s x → length (workAfter e (x .work)) ≡ length (x .work)
+  work-length (ignore n) z x g = refl
+  work-length (refuse n none) z x g = refl
+  work-length (refuse n (some q)) z x g = dropped-length (base q) (x .work) (record-room q z x g)
+  work-length (show a) z x g = refl
+  work-length (write a bs false) z x g = refl
+  work-length (write a bs true) z x g = dropped-length (base (a .object)) (x .work) (record-room (a .object) (half a (z .0)) x g)
+  work-length (keep a p) z x g =
+      area-length joiner (base (a .object)) p (z .1) kept (x .work) (record-room (a .object) (half a (z .0)) x g)
 
-    store-own : (x y : Areas) → Good s x → Good s y → (o : ℕ) → Same (s .table) o x y → (j : Joined) → AsLong total j
-        → Agree (inPart (s .table) o) (storeAfter a j (x .store)) (storeAfter a j (y .store))
-    store-own x y gx gy o e kept l = e .store
-    store-own x y gx gy o e lost l = e .store
-    store-own x y gx gy o e (done bs) l = part-own a bs (z .place) (l ∙ z .total-len) x y gx gy o e
+  good : (e : Effect) → Within e → (x : Areas) → Good s x → Good s (perform e x)
+  unfolding perform
+  good e z x g = record { store = store-length e z x g ∙ g .store; work = work-length e z x g ∙ g .work }
+
+  -- another object sees nothing of it
+  module _ (k : ℕ) (ne : k ≢ o) where
+    no-part : (a : Attribute) → Owned a → (i : ℕ) → a .offset ≤ i → i < endOf a → inPart (s .table) k i → ⊥
+    no-part a z i l h p = ne (sym p ∙ z .place .its i l h ∙ z .object)
+
+    no-record : (q : ℕ) → Half q → (i : ℕ) → base q ≤ i → i < base q + recordSize → inRecord k i → ⊥
+    no-record q z i l h p = ne (sym p ∙ in-record q i l h ∙ z .object)
+
+    store-other : (e : Effect) → Within e → (x : Areas) → Good s x → Agree (inPart (s .table) k) (storeAfter e (x .store)) (x .store)
+    store-other (ignore n) z x g = λ i p. refl
+    store-other (refuse n d) z x g = λ i p. refl
+    store-other (show a) z x g = λ i p. refl
+    store-other (write a bs ends) z x g =
+        untouched (inPart (s .table) k) (x .store) (a .offset) bs (inside a bs (z .0) (z .1) x g) (λ i l h. no-part a (z .0) i l (omega (arith, z .1)))
+    store-other (keep a p) z x g = λ i p. refl
+
+    work-other : (e : Effect) → Within e → (x : Areas) → Good s x → Agree (inRecord k) (workAfter e (x .work)) (x .work)
+    work-other (ignore n) z x g = λ i p. refl
+    work-other (refuse n none) z x g = λ i p. refl
+    work-other (refuse n (some q)) z x g = dropped-outside (base q) (x .work) (record-room q z x g) (inRecord k) (no-record q z)
+    work-other (show a) z x g = λ i p. refl
+    work-other (write a bs false) z x g = λ i p. refl
+    work-other (write a bs true) z x g =
+        dropped-outside (base (a .object)) (x .work) (record-room (a .object) (half a (z .0)) x g) (inRecord k) (no-record (a .object) (half a (z .0)))
+    work-other (keep a p) z x g =
+        area-outside joiner (base (a .object)) p (z .1) (inRecord k) kept (x .work) (record-room (a .object) (half a (z .0)) x g)
+        (no-record (a .object) (half a (z .0)))
+
+    other : (e : Effect) → Within e → (x : Areas) → Good s x → Same (s .table) k (perform e x) x
+    unfolding perform
+    other e z x g = record { store = store-other e z x g; work = work-other e z x g }
+
+  -- two states that the object cannot tell apart stay so, and the frame is answered the same
+  module _ (x y : Areas) (gx : Good s x) (gy : Good s y) (same : Same (s .table) o x y) where
+    store-own : (e : Effect) → Within e → Agree (inPart (s .table) o) (storeAfter e (x .store)) (storeAfter e (y .store))
+    store-own (ignore n) z = same .store
+    store-own (refuse n d) z = same .store
+    store-own (show a) z = same .store
+    store-own (write a bs ends) z =
+        put-both (inPart (s .table) o) (x .store) (y .store) (a .offset) bs (inside a bs (z .0) (z .1) x gx) (inside a bs (z .0) (z .1) y gy) (same .store)
+    store-own (keep a p) z = same .store
+
+    dropped-own : (q : ℕ) → Half q → Agree (inRecord o) (workAfter (refuse 14 (some q)) (x .work)) (workAfter (refuse 14 (some q)) (y .work))
+    dropped-own q z = dropped-both (base q) (x .work) (record-room q z x gx) (inRecord o) (y .work) (record-room q z y gy) (same .work)
+
+    work-own : (e : Effect) → Within e → Agree (inRecord o) (workAfter e (x .work)) (workAfter e (y .work))
+    work-own (ignore n) z = same .work
+    work-own (refuse n none) z = same .work
+    work-own (refuse n (some q)) z = dropped-own q z
+    work-own (show a) z = same .work
+    work-own (write a bs false) z = same .work
+    work-own (write a bs true) z = dropped-own (a .object) (half a (z .0))
+    work-own (keep a p) z =
+        area-both joiner (base (a .object)) p (z .1) (inRecord o) kept (x .work) (y .work)
+        (record-room (a .object) (half a (z .0)) x gx) (record-room (a .object) (half a (z .0)) y gy) (same .work)
+
+    next-alike : (e : Effect) → Within e → Same (s .table) o (perform e x) (perform e y)
+    unfolding perform
+    next-alike e z = record { store = store-own e z; work = work-own e z }
+
+    -- the part of an attribute is cut from its object's bytes
+    part-same : (a : Attribute) → Owned a → partOf a (x .store) ≡ partOf a (y .store)
+    part-same a z =
+        let px : endOf a ≤ length (x .store) = omega (arith, z .place .inside, gx .store) in
+        let py : endOf a ≤ length (y .store) = omega (arith, z .place .inside, gy .store) in
+        part-is a (x .store) px
+        ∙ same-part (inPart (s .table) o) (x .store) (y .store) (a .offset) (a .len) px py (λ i l k. z .place .its i l k ∙ z .object) (same .store)
+        ∙ sym (part-is a (y .store) py)
+
+    told : (h : Header) (e : Effect) → Within e → replyTo (s .own) h e (x .store) ≡ replyTo (s .own) h e (y .store)
+    unfolding replyTo
+    told h (ignore n) z = refl
+    told h (refuse n d) z = refl
+    told h (show a) z = ap (λ (bs : List ℕ). reply 0 (readFrames (s .own) h bs)) (part-same a z)
+    told h (write a bs ends) z = refl
+    told h (keep a p) z = refl
+
+-- ---- plans: their effect keeps to their owner
 
 module _ (s : Setting) where
+  owned : (h : Header) (a : Attribute) → Its s h a → Owned s (a .object) a
+  owned h a z = record { object = refl; place = z .place; area = z .area }
+
+  pub record-of : (h : Header) (a : Attribute) → Its s h a → (x : Areas) → Good s x → base (a .object) + recordSize ≤ length (x .work)
+  record-of h a z x g = room (a .object) (x .work) (z .place .fits .object) (g .work ∙ z .area)
+
+  join-within : (a : Attribute) (p : Piece) → Owned s (a .object) a → Fit joiner p → p .total ≡ a .len
+      → (j : Joined) → AsLong (p .total) j → Within s (a .object) (joinEffect a p j)
+  join-within a p z f e kept l = (z, f)
+  join-within a p z f e (done bs) l = (z, l ∙ e)
+  join-within a p z f e lost l = half s (a .object) a z
+
+  within : (h : Header) (p : Plan) → Sound s h p → (x : Areas) → Good s x → Within s (planOwner p) (planEffect (joinedIn (x .work)) p)
+  unfolding joinedIn
+  within h (Error n q) z x g = tt
+  within h (Read a) z x g = owned h a z
+  within h (Write a b) z x g = (owned h a (z .its), z .whole)
+  within h (Join a number total b) z x g =
+      let k : Piece = pieceOf (a .id) number total b in
+      join-within a k (owned h a (z .its)) (z .fits) (z .total-len) (joinedIn (x .work) a k)
+      (joined-length joiner k (z .fits) (load joiner (base (a .object)) (x .work)) (held-size joiner (base (a .object)) (x .work) (record-of h a (z .its) x g)))
+
+  -- two states that the owner cannot tell apart give the same effect
+  effect-same : (h : Header) (p : Plan) → Sound s h p → (x y : Areas) → Good s x → Good s y → Same (s .table) (planOwner p) x y
+      → planEffect (joinedIn (x .work)) p ≡ planEffect (joinedIn (y .work)) p
+  unfolding joinedIn
+  effect-same h (Error n q) z x y gx gy e = refl
+  effect-same h (Read a) z x y gx gy e = refl
+  effect-same h (Write a b) z x y gx gy e = refl
+  effect-same h (Join a number total b) z x y gx gy e =
+      let k : Piece = pieceOf (a .id) number total b in
+      ap (λ (j : Joined). joinEffect a k j)
+      (ap (joined joiner k)
+      (load-same joiner (base (a .object)) (inRecord (a .object)) (in-record (a .object)) (x .work) (y .work) (record-of h a (z .its) x gx) (record-of h a (z .its) y gy) (e .work)))
+
+  plan-below : (h : Header) (p : Plan) → Sound s h p → planOwner p ≤ 31
+  plan-below h (Error n q) z = z
+  plan-below h (Read a) z = z .place .fits .object
+  plan-below h (Write a b) z = z .its .place .fits .object
+  plan-below h (Join a number total b) z = z .its .place .fits .object
+
+  -- ---- frames: nobody's, or their plan's owner's
+
+  abbrev after : Judged → Areas → Areas
+  after j x = perform (effectOf (joinedIn (x .work)) j) x
+
+  abbrev said : Header → Judged → Areas → Reply
+  said h j x = replyTo (s .own) h (effectOf (joinedIn (x .work)) j) (x .store)
+
+  module _ (h : Header) where
+    good-after : (j : Judged) → SoundJudged s h j → (x : Areas) → Good s x → Good s (after j x)
+    unfolding perform
+    good-after (quiet n) z x g = g
+    good-after (asks p) z x g = good s (planOwner p) (planEffect (joinedIn (x .work)) p) (within h p z x g) x g
+
+    others-after : (j : Judged) → SoundJudged s h j → (o : ℕ) → owner j ≢ some o → (x : Areas) → Good s x → Same (s .table) o (after j x) x
+    unfolding perform
+    others-after (quiet n) z o ne x g = same-refl (s .table) o x
+    others-after (asks p) z o ne x g =
+        other s (planOwner p) o (λ e. ne (ap {B = Option ℕ} some (sym e))) (planEffect (joinedIn (x .work)) p) (within h p z x g) x g
+
+    own-after : (j : Judged) → SoundJudged s h j → (o : ℕ) → owner j ≡ some o → (x y : Areas) → Good s x → Good s y → Same (s .table) o x y
+        → Same (s .table) o (after j x) (after j y) × (said h j x ≡ said h j y)
+    own-after (quiet n) z o m x y gx gy e = let q : _≡_ {A = ℕ} 0 1 = cc in absurd (omega arith)
+    own-after (asks p) z o m x y gx gy e =
+        let q : planOwner p ≡ o = cc in
+        let same : Same (s .table) (planOwner p) x y = subst (λ (k : ℕ). Same (s .table) k x y) (sym q) e in
+        let w = within h p z x gx in
+        let alike = effect-same h p z x y gx gy same in (
+          subst (λ (k : ℕ). Same (s .table) k (after (asks p) x) (after (asks p) y)) q
+              (subst (λ (f : Effect). Same (s .table) (planOwner p) (after (asks p) x) (perform f y)) alike (next-alike s (planOwner p) x y gx gy same _ w)),
+          subst (λ (f : Effect). said h (asks p) x ≡ replyTo (s .own) h f (y .store)) alike (told s (planOwner p) x y gx gy same h _ w),
+        )
+
+    free-said : (j : Judged) → owner j ≡ none → (x y : Areas) → said h j x ≡ said h j y
+    unfolding replyTo
+    free-said (quiet n) m x y = refl
+    free-said (asks p) m x y = let q : _≡_ {A = ℕ} 0 1 = cc in absurd (omega arith)
+
+    below : (j : Judged) → SoundJudged s h j → (o : ℕ) → owner j ≡ some o → o < recordCount
+    below (quiet n) z o e = let q : _≡_ {A = ℕ} 0 1 = cc in absurd (omega arith)
+    below (asks p) z o e = let q : planOwner p ≡ o = cc in omega (arith, plan-below h p z)
+
   pub next-good : (r : List ℕ) (x : Areas) → Good s x → Good s (next s r x)
-  unfolding perform
-  next-good r x g = go (planOf s r) (sound s r)
-    where
-      go : (p : Plan) → Sound s (headerOf r) p → Good s (perform p x)
-      go (Quiet n) z = g
-      go (Error n o) z = g
-      go (Read a) z = g
-      go (Write a b) z = record {
-        store = length-put (x .store) (a .offset) (bytesOf b) (inside s (headerOf r) a (bytesOf b) (z .place) (z .whole) x g) ∙ g .store;
-        work = g .work;
-      }
-      go (Join a number total b) z = record {
-        store = store-length s (headerOf r) a number total b z x g (joinedAt a number total b (x .work)) (as-long s (headerOf r) a number total b z x g);
-        work = area-length 4 (base (a .object)) (pieceOf (a .id) number total b) (z .shaped) (joinedAt a number total b (x .work)) (x .work)
-            (record-room s (headerOf r) a number total b z x g) ∙ g .work;
-      }
+  next-good r = good-after (headerOf r) (judgedOf s r) (sound s r)
 
-  -- another object sees nothing of a frame
-  pub next-other : (o : ℕ) (r : List ℕ) (x : Areas) → o ≢ headerOf r .object → Good s x → Same (s .table) o (next s r x) x
-  unfolding perform
-  next-other o r x ne g = go (planOf s r) (sound s r)
-    where
-      go : (p : Plan) → Sound s (headerOf r) p → Same (s .table) o (perform p x) x
-      go (Quiet n) z = same-refl (s .table) o x
-      go (Error n q) z = same-refl (s .table) o x
-      go (Read a) z = same-refl (s .table) o x
-      go (Write a b) z = record { store = part-other s (headerOf r) a (bytesOf b) (z .place) (z .whole) o ne x g; work = λ i p. refl }
-      go (Join a number total b) z = record {
-        store = store-other s (headerOf r) a number total b z o ne x g (joinedAt a number total b (x .work)) (as-long s (headerOf r) a number total b z x g);
-        work = area-outside 4 (base (a .object)) (pieceOf (a .id) number total b) (z .shaped) (inRecord o) (joinedAt a number total b (x .work)) (x .work)
-            (record-room s (headerOf r) a number total b z x g) (λ i l k p. ne (omega (arith, z .place .its-object)));
-      }
+  pub others : (o : ℕ) (r : List ℕ) (x : Areas) → ownerOf s r ≢ some o → Good s x → Same (s .table) o (next s r x) x
+  others o r x ne g = others-after (headerOf r) (judgedOf s r) (sound s r) o ne x g
 
-  -- its own object, in two states that it cannot tell apart, cannot tell them apart after it
-  next-own : (r : List ℕ) (x y : Areas) → Good s x → Good s y → Same (s .table) (headerOf r .object) x y
-      → Same (s .table) (headerOf r .object) (next s r x) (next s r y)
-  unfolding perform
-  next-own r x y gx gy e = go (planOf s r) (sound s r)
-    where
-      o : ℕ
-      o = headerOf r .object
-
-      go : (p : Plan) → Sound s (headerOf r) p → Same (s .table) o (perform p x) (perform p y)
-      go (Quiet n) z = e
-      go (Error n q) z = e
-      go (Read a) z = e
-      go (Write a b) z = record { store = part-own s (headerOf r) a (bytesOf b) (z .place) (z .whole) x y gx gy o e; work = e .work }
-      go (Join a number total b) z =
-          let same = joined-same s (headerOf r) a number total b z x y gx gy (subst (λ (k : ℕ). Same (s .table) k x y) (sym (z .place .its-object)) e) in
-          rw (← same) (record {
-            store = store-own s (headerOf r) a number total b z x y gx gy o e (joinedAt a number total b (x .work)) (as-long s (headerOf r) a number total b z x gx);
-            work = area-both 4 (base (a .object)) (pieceOf (a .id) number total b) (z .shaped) (inRecord o) (joinedAt a number total b (x .work)) (x .work) (y .work)
-                (record-room s (headerOf r) a number total b z x gx) (record-room s (headerOf r) a number total b z y gy) (e .work);
-          })
-
-  -- the part of an attribute is cut from its object's bytes
-  part-same : (h : Header) (a : Attribute) → ForRead s h a → (x y : Areas) → Good s x → Good s y → Same (s .table) (h .object) x y
-      → partOf a (x .store) ≡ partOf a (y .store)
-  unfolding partOf
-  part-same h a z x y gx gy e =
-      let px : endOf a ≤ length (x .store) = omega (arith, z .place .inside, gx .store) in
-      let py : endOf a ≤ length (y .store) = omega (arith, z .place .inside, gy .store) in
-      simp (le-leb (endOf a) (length (x .store)) px, le-leb (endOf a) (length (y .store)) py)
-      (same-part (inPart (s .table) (h .object)) (x .store) (y .store) (a .offset) (a .len) px py
-      (λ i l k. z .place .its i l k ∙ z .place .its-object) (e .store))
-
-  answer-own : (r : List ℕ) (x y : Areas) → Good s x → Good s y → Same (s .table) (headerOf r .object) x y → answer s r x ≡ answer s r y
-  unfolding replyTo
-  answer-own r x y gx gy e = go (planOf s r) (sound s r)
-    where
-      h : Header
-      h = headerOf r
-
-      go : (p : Plan) → Sound s h p → replyTo (s .own) h p x ≡ replyTo (s .own) h p y
-      go (Quiet n) z = refl
-      go (Error n q) z = refl
-      go (Read a) z = ap (λ (bs : List ℕ). record { number = 0; frames = readFrames (s .own) h bs }) (part-same h a z x y gx gy e)
-      go (Write a b) z = refl
-      go (Join a number total b) z =
-          ap (joinReply (s .own) h)
-          (joined-same s h a number total b z x y gx gy (subst (λ (k : ℕ). Same (s .table) k x y) (sym (z .place .its-object)) e))
-
-  -- a frame of an object bears its number, and a frame of none asks for nothing
-  pub its-object : (r : List ℕ) (o : ℕ) → object s r ≡ some o → headerOf r .object ≡ o
-  its-object r o e = go (planOf s r) (sound s r) e
-    where
-      go : (p : Plan) → Sound s (headerOf r) p → objectOf p ≡ some o → headerOf r .object ≡ o
-      go (Quiet n) z e = let q : _≡_ {A = ℕ} 0 1 = cc in absurd (omega arith)
-      go (Error n q) z e = cc
-      go (Read a) z e = cc (z .place .its-object)
-      go (Write a b) z e = cc (z .place .its-object)
-      go (Join a number total b) z e = cc (z .place .its-object)
-
-  no-object : (r : List ℕ) → object s r ≡ none → (x : Areas) → (next s r x ≡ x) × ((y : Areas) → answer s r x ≡ answer s r y)
-  unfolding perform replyTo
-  no-object r e x = go (planOf s r) e
-    where
-      go : (p : Plan) → objectOf p ≡ none → (perform p x ≡ x) × ((y : Areas) → replyTo (s .own) (headerOf r) p x ≡ replyTo (s .own) (headerOf r) p y)
-      go (Quiet n) e = (refl, λ y. refl)
-      go (Error n q) e = let q : _≡_ {A = ℕ} 0 1 = cc in absurd (omega arith)
-      go (Read a) e = let q : _≡_ {A = ℕ} 0 1 = cc in absurd (omega arith)
-      go (Write a b) e = let q : _≡_ {A = ℕ} 0 1 = cc in absurd (omega arith)
-      go (Join a number total b) e = let q : _≡_ {A = ℕ} 0 1 = cc in absurd (omega arith)
-
-  -- a frame is of its header's object, or of none
-  whose : (r : List ℕ) → (object s r ≡ some (headerOf r .object)) ⊎ (object s r ≡ none)
-  whose r = go (planOf s r) (sound s r)
-    where
-      go : (p : Plan) → Sound s (headerOf r) p → (objectOf p ≡ some (headerOf r .object)) ⊎ (objectOf p ≡ none)
-      go (Quiet n) z = inr refl
-      go (Error n q) z = inl (ap {B = Option ℕ} some z)
-      go (Read a) z = inl (ap {B = Option ℕ} some (z .place .its-object))
-      go (Write a b) z = inl (ap {B = Option ℕ} some (z .place .its-object))
-      go (Join a number total b) z = inl (ap {B = Option ℕ} some (z .place .its-object))
-
-  others : (o : ℕ) (r : List ℕ) (x : Areas) → object s r ≢ some o → Good s x → Same (s .table) o (next s r x) x
-  others o r x ne g =
-      ⊎-elim
-      (λ m. next-other o r x (λ q. ne (m ∙ ap {B = Option ℕ} some (sym q))) g)
-      (λ m. rw (no-object r m x .0) (same-refl (s .table) o x))
-      (whose r)
-
-  pub object-below : (r : List ℕ) (o : ℕ) → object s r ≡ some o → o < 32
-  object-below r o e = omega (arith, its-object r o e, ranged r .object)
+  pub owner-below : (r : List ℕ) (o : ℕ) → ownerOf s r ≡ some o → o < recordCount
+  owner-below r = below (headerOf r) (judgedOf s r) (sound s r)
 
   -- so its frames may be mixed
-  pub device-local : Local (next s) (answer s) (object s) (Good s) (Same (s .table))
+  pub device-local : Local (next s) (answer s) (ownerOf s) (Good s) (Same (s .table))
   device-local = record {
     good-next = next-good;
     same-refl = same-refl (s .table);
     same-sym = λ o x y e. record { store = λ i p. sym (e .store i p); work = λ i p. sym (e .work i p) };
     same-trans = λ o x y z d e. record { store = λ i p. d .store i p ∙ e .store i p; work = λ i p. d .work i p ∙ e .work i p };
     others = others;
-    own-next = λ o r x y m gx gy e. rw (← its-object r o m) (next-own r x y gx gy (rw (its-object r o m) e));
-    own-answer = λ o r x y m gx gy e. answer-own r x y gx gy (rw (its-object r o m) e);
-    free-answer = λ r x y m gx gy. no-object r m x .1 y;
+    own-next = λ o r x y m gx gy e. own-after (headerOf r) (judgedOf s r) (sound s r) o m x y gx gy e .0;
+    own-answer = λ o r x y m gx gy e. own-after (headerOf r) (judgedOf s r) (sound s r) o m x y gx gy e .1;
+    free-answer = λ r x y m gx gy. free-said (headerOf r) (judgedOf s r) m x y;
     all-same = λ x y gx gy e. λ i. record {
       store = ext-getD 0 (x .store) (y .store) (gx .store ∙ sym (gy .store)) (λ j b. e (ownerIn (attributes (s .table)) j) .store j refl) i;
-      work = ext-getD 0 (x .work) (y .work) (gx .work ∙ sym (gy .work)) (λ j b. e (j / 260) .work j refl) i;
+      work = ext-getD 0 (x .work) (y .work) (gx .work ∙ sym (gy .work)) (λ j b. e (recordOf j) .work j refl) i;
     };
   }

@@ -1,67 +1,65 @@
 -- What a plan promises: the facts that checks 1 to 13 leave.
-use Prim.Native.Nat.{ℕ, _+_, _-_, _*_, _%_, _≤_, _<_, min}
-use mathlib.Core.Path.{_≡_, refl, sym, ap, subst, _∙_}
-use mathlib.Core.Bool.{Bool, true, false, cond, not, _&&_, _||_, and-eq-true-iff}
+use Prim.Native.Nat.{ℕ, _≤_, _<_}
+use mathlib.Core.Path.{_≡_, refl, ap, subst, _∙_}
+use mathlib.Core.Bool.{true, false, not, _&&_, _||_, and-eq-true-iff}
 use mathlib.Mathlib.Data.Bool.Basic.{or-eq-false-eq-eq-false-and-eq-false as neither}
-use mathlib.Core.List.{List, [], _∷_}
+use mathlib.Core.List.{List}
 use native.Mathlib.Omega.{arith}
 use lib.ListN.{length}
 use lib.Dec.{eqb, leb, ltb}
-use borrow.Author.Tests.{ltb-true, ltb-false, eqb-true, eqb-false, eq-eqb, ne-eqb, le-ltb, not-false}
+use borrow.Author.Tests.{ltb-false, eqb-true, eqb-false, eq-eqb, not-false}
 use Rattle.laws.specs.Checks.{firstOf, holdsAt}
-use Rattle.laws.proofs.Tests.{split, clash, not-both}
+use Rattle.laws.proofs.Tests.{split, clash}
 use Rattle.laws.proofs.Checks.{none-holds}
 use Rattle.octets.specs.declared.Data.{Data}
 use Rattle.octets.specs.Data.{bytesOf, tidy}
 use Rattle.octets.proofs.Datas.{bytes-length, tidy-more}
 use Rattle.codec.specs.declared.Header.{Header}
+use Rattle.codec.specs.declared.Answer.{Answer}
 use Rattle.codec.specs.declared.Answer.the-variants.{Got}
+use Rattle.codec.specs.declared.Subject.{Subject}
 use Rattle.codec.specs.declared.Message.{Message}
 use Rattle.codec.specs.declared.Message.the-variants.{Short, Plain, Fragment}
-use Rattle.codec.specs.Names.{writeService, readService}
+use Rattle.codec.specs.Names.{frameSize, mostAddress, writeService, readService}
 use Rattle.codec.specs.Fields.{headerOf}
 use Rattle.codec.specs.Reading.{headerChecks, barred, messageOf, readOf}
 use Rattle.codec.specs.Writing.{subjectFits, carried}
-use Rattle.codec.proofs.Headers.{long-passes}
-use Rattle.codec.proofs.Long.{got}
+use Rattle.codec.proofs.Headers.{long-passes, ranged}
+use Rattle.codec.proofs.Long.{got, message-plain, message-fragment}
 use Rattle.codec.proofs.Trips.{read-is-carried}
 use Rattle.table.specs.declared.Attribute.{Attribute}
 use Rattle.table.specs.declared.Found.{Found}
 use Rattle.table.specs.declared.Found.the-variants.{At, Nothing}
-use Rattle.table.specs.Table.{entrySize, attributes, wellFormed, find}
-use Rattle.table.proofs.Tables.{Placed, placed}
-use Rattle.join.specs.History.{Shaped}
+use Rattle.table.specs.Table.{lengthsFit, LengthsFit, attributes, wellFormed}
+use Rattle.table.proofs.Tables.{lengths-fit-in-words, Placed, found-placed, found-named}
+use Rattle.join.specs.Work.{areaSize}
+use Rattle.join.specs.History as Join
+use Rattle.join.proofs.Joins.{simple-fit}
 use Rattle.guest.specs.declared.Plan.{Plan}
-use Rattle.guest.specs.declared.Plan.the-variants.{Quiet, Error, Read, Write, Join}
-use Rattle.guest.specs.Checks.{Setting, misfit, noService, actionOrEvent, badShape, unknown, wrongLength, wrongPiece, pieceOf, soughtIn, planChecks}
-use Rattle.guest.specs.Step.{served, servedWrite, refused, planOf}
+use Rattle.guest.specs.declared.Plan.the-variants.{Error, Read, Write, Join}
+use Rattle.guest.specs.Checks.{Setting, leastOut, misfit, noService, actionOrEvent, badShape, unknown, wrongLength, wrongPiece, fragmentBytes, joiner, pieceOf, soughtIn, planChecks}
+use Rattle.guest.specs.Step.{served, servedWrite, Judged, quiet, asks, judgedOf}
 
 -- what check 1 leaves
-pub record Fit (s : Setting) (r : List ℕ) : Type 0 where
-  pub ten : length r ≡ 10
-  pub whole : length (s .table) % entrySize ≡ 0
-  pub table : length (s .table) ≤ 1024 * entrySize
-  pub store : s .store ≤ 32768
-  pub work : s .work ≡ 8320
-  pub out : 640 ≤ s .out
-  pub own : s .own ≤ 125
+pub record Accepted (s : Setting) (r : List ℕ) : Type 0 where
+  pub ten : length r ≡ frameSize
+  pub lengths : LengthsFit (length (s .table)) (s .storeLen)
+  pub work : s .workLen ≡ areaSize
+  pub out : leastOut ≤ s .outLen
+  pub own : s .own ≤ mostAddress
 
-pub fit : (s : Setting) (r : List ℕ) → misfit s r ≡ false → Fit s r
-fit s r e =
-    let own = neither _ (ltb 125 (s .own)) .0 e in
-    let out = neither _ (ltb (s .out) 640) .0 (own .0) in
-    let work = neither _ (not (eqb (s .work) 8320)) .0 (out .0) in
-    let store = neither _ (ltb 32768 (s .store)) .0 (work .0) in
-    let table = neither _ (ltb (1024 * entrySize) (length (s .table))) .0 (store .0) in
-    let ten = neither (not (eqb (length r) 10)) (not (eqb (length (s .table) % entrySize) 0)) .0 (table .0) in
+pub accepted : (s : Setting) (r : List ℕ) → misfit s r ≡ false → Accepted s r
+accepted s r e =
+    let own = neither _ (ltb mostAddress (s .own)) .0 e in
+    let out = neither _ (ltb (s .outLen) leastOut) .0 (own .0) in
+    let work = neither _ (not (eqb (s .workLen) areaSize)) .0 (out .0) in
+    let front = neither (not (eqb (length r) frameSize)) (not (lengthsFit (length (s .table)) (s .storeLen))) .0 (work .0) in
     record {
-      ten = eqb-true (length r) 10 (not-false _ (ten .0));
-      whole = eqb-true (length (s .table) % entrySize) 0 (not-false _ (ten .1));
-      table = ltb-false (1024 * entrySize) (length (s .table)) (table .1);
-      store = ltb-false 32768 (s .store) (store .1);
-      work = eqb-true (s .work) 8320 (not-false _ (work .1));
-      out = ltb-false (s .out) 640 (out .1);
-      own = ltb-false 125 (s .own) (own .1);
+      ten = eqb-true (length r) frameSize (not-false _ (front .0));
+      lengths = lengths-fit-in-words (length (s .table)) (s .storeLen) .0 (not-false _ (front .1));
+      work = eqb-true (s .workLen) areaSize (not-false _ (work .1));
+      out = ltb-false (s .outLen) leastOut (out .1);
+      own = ltb-false mostAddress (s .own) (own .1);
     }
 
 -- check 8 lets no Read with the flag set pass
@@ -107,8 +105,8 @@ passed h b n a p =
 
 -- what is known of a setting and a record that pass checks 1 to 12
 pub record Unrefused (s : Setting) (r : List ℕ) : Type 0 where
-  pub sizes : Fit s r
-  pub well : wellFormed (s .table) (s .store) ≡ true
+  pub sizes : Accepted s r
+  pub well : wellFormed (s .table) (s .storeLen) ≡ true
   pub read : readOf r ≡ Got (messageOf r)
   pub frame : Passed (headerOf r)
   pub known : unknown (soughtIn (s .table) (headerOf r)) ≡ false
@@ -118,7 +116,7 @@ pub record Unrefused (s : Setting) (r : List ℕ) : Type 0 where
 pub unrefused-by : (s : Setting) (r : List ℕ) → ((n : ℕ) → n < 13 → holdsAt (planChecks s r) n ≡ false) → Unrefused s r
 unfolding holdsAt
 unrefused-by s r free =
-    let sizes = fit s r (free 1 (omega arith)) in
+    let sizes = accepted s r (free 1 (omega arith)) in
     let frame = passed (headerOf r) (free 3 (omega arith)) (free 5 (omega arith)) (free 7 (omega arith)) (free 8 (omega arith)) in
     record {
       sizes = sizes;
@@ -135,75 +133,128 @@ unrefused s r e = unrefused-by s r (λ n h. none-holds (planChecks s r) refl .0 
 
 -- ---- sound plans
 
-pub record ForRead (s : Setting) (h : Header) (a : Attribute) : Type 0 where
+-- what is known of the attribute that a frame is served with
+pub record Its (s : Setting) (h : Header) (a : Attribute) : Type 0 where
   pub found : soughtIn (s .table) h ≡ At a
-  pub place : Placed 0 (attributes (s .table)) (s .store) (h .object) (h .id) a
+  pub place : Placed (attributes (s .table)) (s .storeLen) a
+  pub object : a .object ≡ h .object
+  pub id : a .id ≡ h .id
+  pub area : s .workLen ≡ areaSize
 
 pub record ForWrite (s : Setting) (h : Header) (a : Attribute) (b : Data) : Type 0 where
-  pub found : soughtIn (s .table) h ≡ At a
-  pub place : Placed 0 (attributes (s .table)) (s .store) (h .object) (h .id) a
+  pub its : Its s h a
   pub tidied : tidy 6 b ≡ true
   pub whole : length (bytesOf b) ≡ a .len
 
 pub record ForJoin (s : Setting) (h : Header) (a : Attribute) (number total : ℕ) (b : Data) : Type 0 where
-  pub found : soughtIn (s .table) h ≡ At a
-  pub place : Placed 0 (attributes (s .table)) (s .store) (h .object) (h .id) a
-  pub work : s .work ≡ 8320
+  pub its : Its s h a
   pub tidied : tidy 4 b ≡ true
   pub total-len : total ≡ a .len
-  pub shaped : Shaped 4 (pieceOf (a .id) number total b)
+  pub fits : Join.Fit joiner (pieceOf (a .id) number total b)
 
 -- what is owed to each plan
 abbrev pub Sound : Setting → Header → Plan → Type 0
-Sound s h (Quiet n) = Unit {0}
-Sound s h (Error n object) = object ≡ h .object
-Sound s h (Read a) = ForRead s h a
+Sound s h (Error n object) = object ≤ 31
+Sound s h (Read a) = Its s h a
 Sound s h (Write a b) = ForWrite s h a b
 Sound s h (Join a number total b) = ForJoin s h a number total b
 
-sound-write : (s : Setting) (r : List ℕ) (a : Attribute) → soughtIn (s .table) (headerOf r) ≡ At a → Placed 0 (attributes (s .table)) (s .store) (headerOf r .object) (headerOf r .id) a
-    → headerOf r .service ≡ writeService → s .work ≡ 8320
+sound-write : (s : Setting) (r : List ℕ) (a : Attribute) → Its s (headerOf r) a → headerOf r .service ≡ writeService
     → (m : Message) → carried m ≡ true → wrongLength (headerOf r) m (At a) ≡ false → wrongPiece m ≡ false
     → Sound s (headerOf r) (servedWrite a m)
 unfolding carried
-sound-write s r a ef pl w work (Short d q v) c l p = tt
-sound-write s r a ef pl w work (Plain u b) c l p =
+sound-write s r a its w (Short d q v) c l p = its .place .fits .object
+sound-write s r a its w (Plain u b) c l p =
     let t = and-eq-true-iff (subjectFits u) (tidy 6 b) .0 c .1 in
     let n : not (eqb (b .len) (a .len)) ≡ false = simp (eq-eqb (headerOf r .service) writeService w) at l in
-    record { found = ef; place = pl; tidied = t; whole = bytes-length b t ∙ eqb-true (b .len) (a .len) (not-false _ n) }
-sound-write s r a ef pl w work (Fragment u number total b) c l p =
+    record { its = its; tidied = t; whole = bytes-length b t ∙ eqb-true (b .len) (a .len) (not-false _ n) }
+sound-write s r a its w (Fragment u number total b) c l p =
     let q = and-eq-true-iff (subjectFits u) (tidy 4 b) .0 c .1 in
     let t = tidy-more 4 6 b (omega arith) q in
     let n : not (eqb total (a .len)) ≡ false = simp (eq-eqb (headerOf r .service) writeService w) at l in
     let len = eqb-true total (a .len) (not-false _ n) in
-    let p' = neither (not (ltb (4 * number) total)) (not (eqb (b .len) (min 4 (total - 4 * number)))) .0 p in
     record {
-      found = ef;
-      place = pl;
-      work = work;
+      its = its;
       tidied = q;
       total-len = len;
-      shaped = record {
-        inside = ltb-true (4 * number) total (not-false _ (p' .0));
-        fit = bytes-length b t ∙ eqb-true (b .len) (min 4 (total - 4 * number)) (not-false _ (p' .1));
-        room = omega (arith, pl .fits .short);
-      };
+      fits = simple-fit fragmentBytes (a .id) total number (bytesOf b) (omega (arith, its .place .fits .short)) (rw (bytes-length b t) (not-false _ p));
+    }
+
+its-of : (s : Setting) (r : List ℕ) → Unrefused s r → (a : Attribute) → soughtIn (s .table) (headerOf r) ≡ At a → Its s (headerOf r) a
+its-of s r u a e =
+    let name = found-named (s .table) (headerOf r .object) (headerOf r .id) a e in
+    record {
+      found = e;
+      place = found-placed (s .table) (s .storeLen) (headerOf r .object) (headerOf r .id) a (u .well) e;
+      object = name .0;
+      id = name .1;
+      area = u .sizes .work;
     }
 
 pub sound-served : (s : Setting) (r : List ℕ) → Unrefused s r → (f : Found) → soughtIn (s .table) (headerOf r) ≡ f
     → Sound s (headerOf r) (served (headerOf r) (messageOf r) f)
-sound-served s r u Nothing ef = refl
-sound-served s r u (At a) ef =
-    let pl = placed (s .table) (s .store) (headerOf r .object) (headerOf r .id) a (u .well) ef in
+sound-served s r u Nothing e = ranged r .object
+sound-served s r u (At a) e =
+    let its = its-of s r u a e in
     split (eqb (headerOf r .service) readService)
-    (λ t. simp t (record { found = ef; place = pl }))
-    (λ t. simp t (sound-write s r a ef pl (u .frame .services (eqb-false (headerOf r .service) readService t)) (u .sizes .work) (messageOf r)
+    (λ t. simp t its)
+    (λ t. simp t (sound-write s r a its (u .frame .services (eqb-false (headerOf r .service) readService t)) (messageOf r)
     (read-is-carried r (messageOf r) (u .read))
-    (subst (λ (f : Found). wrongLength (headerOf r) (messageOf r) f ≡ false) ef (u .length-fits)) (u .piece-fits)))
+    (subst (λ (f : Found). wrongLength (headerOf r) (messageOf r) f ≡ false) e (u .length-fits)) (u .piece-fits)))
 
-pub sound : (s : Setting) (r : List ℕ) → Sound s (headerOf r) (planOf s r)
-unfolding planOf
+-- what is owed to what is judged of a frame
+abbrev pub SoundJudged : Setting → Header → Judged → Type 0
+SoundJudged s h (quiet n) = Unit {0}
+SoundJudged s h (asks p) = Sound s h p
+
+pub sound : (s : Setting) (r : List ℕ) → SoundJudged s (headerOf r) (judgedOf s r)
+unfolding judgedOf
 sound s r =
     split (eqb (firstOf (planChecks s r)) 0)
     (λ t. simp t (sound-served s r (unrefused s r (eqb-true _ 0 t)) (soughtIn (s .table) (headerOf r)) refl))
-    (λ t. split (leb (firstOf (planChecks s r)) 6) (λ q. simp (t, q) tt) (λ q. simp (t, q) refl))
+    (λ t. split (leb (firstOf (planChecks s r)) 6) (λ q. simp (t, q) tt) (λ q. simp (t, q) (ranged r .object)))
+
+-- ---- what a frame that passes checks 1 to 13 is served as
+
+pub data ServedBy (s : Setting) (r : List ℕ) : Type 0 where
+  by-read : (a : Attribute) → headerOf r .service ≡ readService → Its s (headerOf r) a → judgedOf s r ≡ asks (Read a) → ServedBy s r
+  by-write : (a : Attribute) (u : Subject) (b : Data) → headerOf r .service ≡ writeService → readOf r ≡ Got (Plain u b)
+      → ForWrite s (headerOf r) a b → judgedOf s r ≡ asks (Write a b) → ServedBy s r
+  by-join : (a : Attribute) (u : Subject) (number total : ℕ) (b : Data) → headerOf r .service ≡ writeService → readOf r ≡ Got (Fragment u number total b)
+      → ForJoin s (headerOf r) a number total b → judgedOf s r ≡ asks (Join a number total b) → ServedBy s r
+
+pub served-by : (s : Setting) (r : List ℕ) → firstOf (planChecks s r) ≡ 0 → ServedBy s r
+unfolding judgedOf
+served-by s r e = found (soughtIn (s .table) (headerOf r)) refl
+  where
+    h : Header
+    h = headerOf r
+
+    u : Unrefused s r
+    u = unrefused s r e
+
+    long : h .dlc ≡ 0 → ⊥
+    long q = omega (arith, u .frame .long)
+
+    plan : (f : Found) → soughtIn (s .table) h ≡ f → judgedOf s r ≡ asks (served h (messageOf r) f)
+    plan f q = simp (eq-eqb (firstOf (planChecks s r)) 0 e) (ap (λ (f : Found). asks (served h (messageOf r) f)) q)
+
+    is-sound : (p : Plan) → judgedOf s r ≡ asks p → Sound s h p
+    is-sound p q = subst (SoundJudged s h) q (sound s r)
+
+    found : (f : Found) → soughtIn (s .table) h ≡ f → ServedBy s r
+    found Nothing q = clash (ap unknown q) (u .known)
+    found (At a) q =
+        split (eqb (h .service) readService)
+        (λ t. let p : judgedOf s r ≡ asks (Read a) = plan (At a) q ∙ simp t in by-read a (eqb-true (h .service) readService t) (is-sound (Read a) p) p)
+        (λ t.
+        let w = u .frame .services (eqb-false (h .service) readService t) in
+        split (eqb (h .flag) 1)
+        (λ f.
+        let m = message-fragment r long (eqb-true (h .flag) 1 f) in
+        let p = plan (At a) q ∙ simp (t, m) in
+        by-join a _ _ _ _ w (u .read ∙ ap {B = Answer} Got m) (is-sound _ p) p)
+        (λ f.
+        let m = message-plain r long (eqb-false (h .flag) 1 f) in
+        let p = plan (At a) q ∙ simp (t, m) in
+        by-write a _ _ w (u .read ∙ ap {B = Answer} Got m) (is-sound _ p) p))

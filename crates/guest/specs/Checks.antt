@@ -1,44 +1,50 @@
 -- The checks of a frame (01, "One frame, one reply"), each beside its row, in one ordered list.
-use Prim.Native.Nat.{ℕ, _+_, _-_, _*_, _%_, min}
+use Prim.Native.Nat.{ℕ, _*_}
 use mathlib.Core.Bool.{Bool, true, false, cond, not, _&&_, _||_}
 use mathlib.Core.List.{List, [], _∷_, _++_}
 use lib.ListN.{length}
-use lib.Dec.{eqb, leb, ltb}
+use lib.Dec.{eqb, ltb}
 use Rattle.laws.specs.Checks.{Check}
 use Rattle.octets.specs.declared.Data.{Data}
 use Rattle.octets.specs.Data.{bytesOf}
 use Rattle.codec.specs.declared.Header.{Header}
 use Rattle.codec.specs.declared.Message.{Message}
 use Rattle.codec.specs.declared.Message.the-variants.{Short, Plain, Fragment}
-use Rattle.codec.specs.Names.{writeService, readService, request}
+use Rattle.codec.specs.Names.{frameSize, mostAddress, lowestLong, writeService, readService, request}
 use Rattle.codec.specs.Fields.{headerOf}
 use Rattle.codec.specs.Reading.{barred, messageOf}
-use Rattle.table.specs.declared.Attribute.{Attribute}
 use Rattle.table.specs.declared.Found.{Found}
 use Rattle.table.specs.declared.Found.the-variants.{At, Nothing}
-use Rattle.table.specs.Table.{entrySize, readable, writable, wellFormed, find}
-use Rattle.join.specs.Work.{Piece, base, load, astray}
+use Rattle.table.specs.Table.{lengthsFit, readable, writable, wellFormed, find}
+use Rattle.join.specs.Work.{areaSize, base, Joiner, simple, Piece, load, shapedBy, astray}
 
--- what a call is given besides the record and what the areas hold: own address, table, and the lengths of store, work area and output
+-- what decides a call besides the frame and what the lent areas hold: own address, table, and the lengths of store, work area and output
 pub record Setting : Type 0 where
   pub own : ℕ
   pub table : List ℕ
-  pub store : ℕ
-  pub work : ℕ
-  pub out : ℕ
+  pub storeLen : ℕ
+  pub workLen : ℕ
+  pub outLen : ℕ
 
-abbrev pub setting : ℕ → List ℕ → ℕ → ℕ → ℕ → Setting
-setting own table store work out = record { own = own; table = table; store = store; work = work; out = out }
+abbrev pub settingBy : ℕ → List ℕ → ℕ → ℕ → ℕ → Setting
+settingBy own table storeLen workLen outLen = record { own = own; table = table; storeLen = storeLen; workLen = workLen; outLen = outLen }
+
+-- "0..64" frames
+abbrev pub mostFrames : ℕ
+mostFrames = 64
+
+abbrev pub leastOut : ℕ
+leastOut = mostFrames * frameSize
 
 -- 1  "record not 10 bytes; table not a multiple of 8 or over 8,192; store over 32,768; work area not 8,320; output under 640; own address over 125"
 abbrev pub misfit : Setting → List ℕ → Bool
 misfit s r =
-    not (eqb (length r) 10) || not (eqb (length (s .table) % entrySize) 0) || ltb (1024 * entrySize) (length (s .table))
-    || ltb 32768 (s .store) || not (eqb (s .work) 8320) || ltb (s .out) 640 || ltb 125 (s .own)
+    not (eqb (length r) frameSize) || not (lengthsFit (length (s .table)) (s .storeLen)) || not (eqb (s .workLen) areaSize) || ltb (s .outLen) leastOut
+    || ltb mostAddress (s .own)
 
 -- 2  "table not well formed"
 abbrev pub illFormed : Setting → Bool
-illFormed s = not (wellFormed (s .table) (s .store))
+illFormed s = not (wellFormed (s .table) (s .storeLen))
 
 -- 3  "RTR 1, DLC over 8, or address 126 or 127": the codec's `barred`
 
@@ -48,7 +54,7 @@ notForUs own h = eqb (h .dir) 1 || not (eqb (h .address) own)
 
 -- 5  "DLC 0 or 1, or service 0 to 3"
 abbrev pub noService : Header → Bool
-noService h = ltb (h .dlc) 2 || ltb (h .service) 4
+noService h = ltb (h .dlc) 2 || ltb (h .service) lowestLong
 
 -- 6  "not a Request"
 abbrev pub notRequest : Header → Bool
@@ -56,7 +62,7 @@ notRequest h = not (eqb (h .response) request)
 
 -- 7  "Action or Event"
 abbrev pub actionOrEvent : Header → Bool
-actionOrEvent h = ltb 5 (h .service)
+actionOrEvent h = ltb readService (h .service)
 
 -- 8  "Read with flag set or DLC not 2; Write with flag set and DLC under 4"
 abbrev pub badShape : Header → Bool
@@ -85,11 +91,15 @@ abbrev pub wrongLength : Header → Message → Found → Bool
 wrongLength h m Nothing = false
 wrongLength h m (At a) = eqb (h .service) writeService && not (eqb (lengthAsked m) (a .len))
 
+-- the data bytes of every fragment but the last
+abbrev pub fragmentBytes : ℕ
+fragmentBytes = 4
+
 -- 12  "(12 to 14 for fragments only) number n with 4n not below total, or data not min(4, total - 4n) bytes"
 abbrev pub wrongPiece : Message → Bool
 wrongPiece (Short dir address service) = false
 wrongPiece (Plain u b) = false
-wrongPiece (Fragment u number total b) = not (ltb (4 * number) total) || not (eqb (b .len) (min 4 (total - 4 * number)))
+wrongPiece (Fragment u number total b) = not (shapedBy fragmentBytes total number (b .len))
 
 -- 13  "number above 63"
 abbrev pub highNumber : Message → Bool
@@ -97,15 +107,18 @@ highNumber (Short dir address service) = false
 highNumber (Plain u b) = false
 highNumber (Fragment u number total b) = ltb 63 number
 
--- a fragment, as the joiner sees it
+-- the device's joiner, and a fragment as it sees it: the key is the ID
+abbrev pub joiner : Joiner
+joiner = simple fragmentBytes
+
 abbrev pub pieceOf : ℕ → ℕ → ℕ → Data → Piece
-pieceOf id number total b = record { id = id; total = total; number = number; bytes = bytesOf b }
+pieceOf id number total b = record { key = id ∷ []; total = total; number = number; bytes = bytesOf b }
 
 -- 14  "n not 0, and the record is idle or differs in ID, total or next number"
-abbrev pub outOfOrder : Header → Message → List ℕ → Bool
-outOfOrder h (Short dir address service) work = false
-outOfOrder h (Plain u b) work = false
-outOfOrder h (Fragment u number total b) work = astray 4 (load (base (h .object)) work) (pieceOf (h .id) number total b)
+abbrev pub outOfOrder : Message → List ℕ → Bool
+outOfOrder (Short dir address service) work = false
+outOfOrder (Plain u b) work = false
+outOfOrder (Fragment u number total b) work = astray joiner (load joiner (base (u .object)) work) (pieceOf (u .id) number total b)
 
 -- checks 1 to 13: no state decides them
 abbrev pub stateless : Setting → List ℕ → Header → Message → Found → List Check
@@ -134,4 +147,4 @@ planChecks s r = stateless s r (headerOf r) (messageOf r) (soughtIn (s .table) (
 
 -- all fourteen
 abbrev pub checks : Setting → List ℕ → List ℕ → List Check
-checks s r work = planChecks s r ++ (outOfOrder (headerOf r) (messageOf r) work, 14) ∷ []
+checks s r work = planChecks s r ++ (outOfOrder (messageOf r) work, 14) ∷ []

@@ -1,14 +1,13 @@
--- One frame: what it asks for, what is done, what is answered (01, from "One frame, one reply" on).
+-- One frame: what it asks for, what it does, what is answered (01, from "One frame, one reply" on).
 use Prim.Native.Nat.{ℕ, zero, suc, _+_, _*_, _/_}
-use mathlib.Core.Bool.{Bool, cond}
+use mathlib.Core.Bool.{Bool, true, false, cond}
 use mathlib.Core.List.{List, [], _∷_, _++_}
 use mathlib.Core.Option.{Option, none, some}
 use lib.ListN.{length, take, drop}
 use lib.Dec.{eqb, leb}
 use Rattle.laws.specs.Checks.{firstOf}
 use Rattle.laws.specs.Put.{put}
-use Rattle.octets.specs.declared.Data.{Data}
-use Rattle.octets.specs.Data.{dataOf, bytesOf}
+use Rattle.octets.specs.Data.{mostData, dataOf, bytesOf}
 use Rattle.codec.specs.declared.Header.{Header}
 use Rattle.codec.specs.declared.Subject.{Subject}
 use Rattle.codec.specs.declared.Message.{Message}
@@ -21,16 +20,16 @@ use Rattle.table.specs.declared.Attribute.{Attribute}
 use Rattle.table.specs.declared.Found.{Found}
 use Rattle.table.specs.declared.Found.the-variants.{At, Nothing}
 use Rattle.table.specs.Table.{partOf}
-use Rattle.join.specs.Work.{Joined, kept, done, lost, base, load, joined, areaAfter}
+use Rattle.join.specs.Work.{Piece, Joined, kept, done, lost, base, load, joined, dropped, areaAfter}
 use Rattle.guest.specs.declared.Plan.{Plan}
-use Rattle.guest.specs.declared.Plan.the-variants.{Quiet, Error, Read, Write, Join}
-use Rattle.guest.specs.Checks.{Setting, setting, pieceOf, soughtIn, planChecks}
+use Rattle.guest.specs.declared.Plan.the-variants.{Error, Read, Write, Join}
+use Rattle.guest.specs.Checks.{Setting, settingBy, fragmentBytes, joiner, pieceOf, soughtIn, planChecks}
 
 -- ---- the plan: what a frame asks for, decided without state
 
--- a frame that passes checks 1 to 13 (the other cases cannot be: checks 9 and 5)
+-- a frame that passes checks 1 to 13 (a short message, and no record found, cannot be: checks 5 and 9)
 abbrev pub servedWrite : Attribute → Message → Plan
-servedWrite a (Short dir address service) = Quiet 5
+servedWrite a (Short dir address service) = Error 8 (a .object)
 servedWrite a (Plain u b) = Write a b
 servedWrite a (Fragment u number total b) = Join a number total b
 
@@ -38,49 +37,97 @@ abbrev pub served : Header → Message → Found → Plan
 served h m Nothing = Error 9 (h .object)
 served h m (At a) = cond (eqb (h .service) readService) (Read a) (servedWrite a m)
 
--- refusals 1 to 6 put no frame, 7 to 13 one
-abbrev pub refused : ℕ → ℕ → Plan
-refused n object = cond (leb n 6) (Quiet n) (Error n object)
+-- what is judged of a frame: it is refused with this number and no frame, or it asks for something
+pub data Judged : Type 0 where
+  quiet : ℕ → Judged
+  asks : Plan → Judged
 
-unfoldable pub planOf : Setting → List ℕ → Plan
-planOf s r =
+-- refusals 1 to 6 put no frame, 7 to 13 one
+abbrev pub refused : ℕ → ℕ → Judged
+refused n object = cond (leb n 6) (quiet n) (asks (Error n object))
+
+unfoldable pub judgedOf : Setting → List ℕ → Judged
+judgedOf s r =
     cond (eqb (firstOf (planChecks s r)) 0)
-    (served (headerOf r) (messageOf r) (soughtIn (s .table) (headerOf r)))
+    (asks (served (headerOf r) (messageOf r) (soughtIn (s .table) (headerOf r))))
     (refused (firstOf (planChecks s r)) (headerOf r .object))
 
--- "Frames answered 1 to 6 belong to no object"
-abbrev pub objectOf : Plan → Option ℕ
-objectOf (Quiet n) = none
-objectOf (Error n object) = some object
-objectOf (Read a) = some (a .object)
-objectOf (Write a b) = some (a .object)
-objectOf (Join a number total b) = some (a .object)
+-- whose a frame is: "Frames answered 1 to 6 belong to no object"; the others are their plan's
+abbrev pub planOwner : Plan → ℕ
+planOwner (Error n object) = object
+planOwner (Read a) = a .object
+planOwner (Write a b) = a .object
+planOwner (Join a number total b) = a .object
+
+abbrev pub owner : Judged → Option ℕ
+owner (quiet n) = none
+owner (asks p) = some (planOwner p)
+
+-- ---- the effect: what a frame does
+
+pub data Effect : Type 0 where
+  -- it is refused with this number, and no frame is put
+  ignore : ℕ → Effect
+  -- it is refused with this number and one error frame; where an object is named, its half-built message is dropped
+  refuse : ℕ → Option ℕ → Effect
+  -- the attribute's bytes are answered
+  show : Attribute → Effect
+  -- the attribute takes these bytes; the Bool says whether they end the half-built message of its object
+  write : Attribute → List ℕ → Bool → Effect
+  -- the fragment is kept in the work record of the attribute's object
+  keep : Attribute → Piece → Effect
+
+-- what a fragment of a Write does, by what the joiner says to it: 14 "also sets status byte of that object's work record to 0"
+abbrev pub joinEffect : Attribute → Piece → Joined → Effect
+joinEffect a p kept = keep a p
+joinEffect a p (done bs) = write a bs true
+joinEffect a p lost = refuse 14 (some (a .object))
+
+-- what a plan does, where `joins` is what the joiner says to a fragment for an attribute
+abbrev pub planEffect : (Attribute → Piece → Joined) → Plan → Effect
+planEffect joins (Error n object) = refuse n none
+planEffect joins (Read a) = show a
+planEffect joins (Write a b) = write a (bytesOf b) false
+planEffect joins (Join a number total b) = joinEffect a (pieceOf (a .id) number total b) (joins a (pieceOf (a .id) number total b))
+
+abbrev pub effectOf : (Attribute → Piece → Joined) → Judged → Effect
+effectOf joins (quiet n) = ignore n
+effectOf joins (asks p) = planEffect joins p
+
+-- the joiner looks at the record of the attribute's object
+unfoldable pub joinedIn : List ℕ → Attribute → Piece → Joined
+joinedIn work a p = joined joiner p (load joiner (base (a .object)) work)
 
 -- ---- what is done
 
+-- what a device keeps between frames
 pub record Areas : Type 0 where
   pub store : List ℕ
   pub work : List ℕ
 
--- "The last one writes the joined bytes into the attribute's part of the store"
-abbrev pub storeAfter : Attribute → Joined → List ℕ → List ℕ
-storeAfter a kept store = store
-storeAfter a (done bs) store = put store (a .offset) bs
-storeAfter a lost store = store
+abbrev pub areas : List ℕ → List ℕ → Areas
+areas store work = record { store = store; work = work }
 
--- what the joiner says to a fragment
-unfoldable pub joinedAt : Attribute → ℕ → ℕ → Data → List ℕ → Joined
-joinedAt a number total b work = joined 4 (pieceOf (a .id) number total b) (load (base (a .object)) work)
+-- "those L bytes alter"; "The last one writes the joined bytes into the attribute's part of the store"
+abbrev pub storeAfter : Effect → List ℕ → List ℕ
+storeAfter (ignore n) l = l
+storeAfter (refuse n drops) l = l
+storeAfter (show a) l = l
+storeAfter (write a bs ends) l = put l (a .offset) bs
+storeAfter (keep a p) l = l
 
-unfoldable pub perform : Plan → Areas → Areas
-perform (Quiet n) s = s
-perform (Error n object) s = s
-perform (Read a) s = s
-perform (Write a b) s = record { store = put (s .store) (a .offset) (bytesOf b); work = s .work }
-perform (Join a number total b) s = record {
-  store = storeAfter a (joinedAt a number total b (s .work)) (s .store);
-  work = areaAfter 4 (base (a .object)) (pieceOf (a .id) number total b) (joinedAt a number total b (s .work)) (s .work);
-}
+-- "sets status to 0"; "Other bytes of the work area stay"
+abbrev pub workAfter : Effect → List ℕ → List ℕ
+workAfter (ignore n) l = l
+workAfter (refuse n none) l = l
+workAfter (refuse n (some object)) l = dropped (base object) l
+workAfter (show a) l = l
+workAfter (write a bs false) l = l
+workAfter (write a bs true) l = dropped (base (a .object)) l
+workAfter (keep a p) l = areaAfter joiner (base (a .object)) p kept l
+
+unfoldable pub perform : Effect → Areas → Areas
+perform e x = areas (storeAfter e (x .store)) (workAfter e (x .work))
 
 -- ---- what is answered
 
@@ -95,57 +142,95 @@ answering own h response = record {
   id = h .id;
 }
 
--- "one frame: Error, flag clear, DLC 2"
-unfoldable pub errorFrame : ℕ → Header → List ℕ
-errorFrame own h = imageOf (Plain (answering own h erroneous) (dataOf []))
+-- "one frame: Error, flag clear, DLC 2", for a refusal: of its number the frame says nothing
+unfoldable pub errorFrame : ℕ → Header → ℕ → List ℕ
+errorFrame own h number = imageOf (Plain (answering own h erroneous) (dataOf []))
 
 -- "one Successful frame, flag clear, DLC 2"
 unfoldable pub successFrame : ℕ → Header → List ℕ
 successFrame own h = imageOf (Plain (answering own h successful) (dataOf []))
 
 -- fragment n of an answer: "four data bytes each and the rest in the last"
+abbrev pub fragmentPart : List ℕ → ℕ → List ℕ
+fragmentPart bs n = take fragmentBytes (drop (fragmentBytes * n) bs)
+
 unfoldable pub fragmentFrame : Subject → List ℕ → ℕ → List ℕ
-fragmentFrame u bs n = imageOf (Fragment u n (length bs) (dataOf (take 4 (drop (4 * n) bs))))
+fragmentFrame u bs n = imageOf (Fragment u n (length bs) (dataOf (fragmentPart bs n)))
 
 -- fragments 0 to n - 1
 abbrev pub fragmentFrames : Subject → List ℕ → ℕ → List (List ℕ)
 fragmentFrames u bs zero = []
 fragmentFrames u bs (suc n) = fragmentFrames u bs n ++ fragmentFrame u bs n ∷ []
 
+-- how many fragments carry so many bytes
+abbrev pub fragmentCount : ℕ → ℕ
+fragmentCount len = (len + 3) / fragmentBytes
+
 -- "length L: up to 6, one Successful frame with DLC 2 + L; above, fragments 0, 1, .. with the flag set, total L"
 unfoldable pub readFrames : ℕ → Header → List ℕ → List (List ℕ)
 readFrames own h bs =
-    cond (leb (length bs) 6)
+    cond (leb (length bs) mostData)
     (imageOf (Plain (answering own h successful) (dataOf bs)) ∷ [])
-    (fragmentFrames (answering own h successful) bs ((length bs + 3) / 4))
+    (fragmentFrames (answering own h successful) bs (fragmentCount (length bs)))
 
 -- "The reply is the number and the count of frames"
 pub record Reply : Type 0 where
   pub number : ℕ
   pub frames : List (List ℕ)
 
-abbrev pub joinReply : ℕ → Header → Joined → Reply
-joinReply own h kept = record { number = 0; frames = [] }
-joinReply own h (done bs) = record { number = 0; frames = successFrame own h ∷ [] }
-joinReply own h lost = record { number = 14; frames = errorFrame own h ∷ [] }
+abbrev pub reply : ℕ → List (List ℕ) → Reply
+reply number frames = record { number = number; frames = frames }
 
-unfoldable pub replyTo : ℕ → Header → Plan → Areas → Reply
-replyTo own h (Quiet n) s = record { number = n; frames = [] }
-replyTo own h (Error n object) s = record { number = n; frames = errorFrame own h ∷ [] }
-replyTo own h (Read a) s = record { number = 0; frames = readFrames own h (partOf a (s .store)) }
-replyTo own h (Write a b) s = record { number = 0; frames = successFrame own h ∷ [] }
-replyTo own h (Join a number total b) s = joinReply own h (joinedAt a number total b (s .work))
+-- what is answered; a Read's frames are cut from the store
+unfoldable pub replyTo : ℕ → Header → Effect → List ℕ → Reply
+replyTo own h (ignore n) l = reply n []
+replyTo own h (refuse n drops) l = reply n (errorFrame own h n ∷ [])
+replyTo own h (show a) l = reply 0 (readFrames own h (partOf a l))
+replyTo own h (write a bs ends) l = reply 0 (successFrame own h ∷ [])
+replyTo own h (keep a p) l = reply 0 []
+
+-- ---- a device of one setting, frame by frame
+
+abbrev pub effectIn : Setting → List ℕ → Areas → Effect
+effectIn s r x = effectOf (joinedIn (x .work)) (judgedOf s r)
+
+abbrev pub next : Setting → List ℕ → Areas → Areas
+next s r x = perform (effectIn s r x) x
+
+abbrev pub answer : Setting → List ℕ → Areas → Reply
+answer s r x = replyTo (s .own) (headerOf r) (effectIn s r x) (x .store)
+
+abbrev pub ownerOf : Setting → List ℕ → Option ℕ
+ownerOf s r = owner (judgedOf s r)
 
 -- ---- one call
 
-abbrev pub next : Setting → List ℕ → Areas → Areas
-next s r x = perform (planOf s r) x
+-- what is lent: a frame, the own address, the table, what the device keeps, and room for the frames of the reply
+pub record Call : Type 0 where
+  pub frame : List ℕ
+  pub own : ℕ
+  pub table : List ℕ
+  pub given : Areas
+  pub out : List ℕ
 
-abbrev pub answer : Setting → List ℕ → Areas → Reply
-answer s r x = replyTo (s .own) (headerOf r) (planOf s r) x
+abbrev pub call : List ℕ → ℕ → List ℕ → Areas → List ℕ → Call
+call frame own table given out = record { frame = frame; own = own; table = table; given = given; out = out }
 
-abbrev pub object : Setting → List ℕ → Option ℕ
-object s r = objectOf (planOf s r)
+abbrev pub setting : ℕ → List ℕ → Areas → List ℕ → Setting
+setting own table given out = settingBy own table (length (given .store)) (length (given .work)) (length out)
+
+abbrev pub settingOf : Call → Setting
+settingOf c = setting (c .own) (c .table) (c .given) (c .out)
+
+-- and what is there afterwards
+pub record Outcome : Type 0 where
+  pub number : ℕ
+  pub count : ℕ
+  pub left : Areas
+  pub out : List ℕ
+
+abbrev pub outcome : ℕ → ℕ → Areas → List ℕ → Outcome
+outcome number count left out = record { number = number; count = count; left = left; out = out }
 
 -- records one behind the other
 abbrev pub flat : List (List ℕ) → List ℕ
@@ -156,22 +241,11 @@ flat (f ∷ fs) = f ++ flat fs
 abbrev pub sent : List (List ℕ) → List ℕ → List ℕ
 sent fs out = put out 0 (flat fs)
 
-pub record Outcome : Type 0 where
-  pub number : ℕ
-  pub count : ℕ
-  pub store : List ℕ
-  pub work : List ℕ
-  pub output : List ℕ
+-- what an effect leaves of a call
+unfoldable pub outcomeOf : ℕ → Header → Effect → Areas → List ℕ → Outcome
+outcomeOf own h e x out =
+    outcome (replyTo own h e (x .store) .number) (length (replyTo own h e (x .store) .frames)) (perform e x) (sent (replyTo own h e (x .store) .frames) out)
 
-abbrev pub settingOf : ℕ → List ℕ → List ℕ → List ℕ → List ℕ → Setting
-settingOf own table store work out = setting own table (length store) (length work) (length out)
-
-abbrev pub outcomeOf : Reply → Areas → List ℕ → Outcome
-outcomeOf y x out = record { number = y .number; count = length (y .frames); store = x .store; work = x .work; output = sent (y .frames) out }
-
-unfoldable pub stepWith : Setting → List ℕ → Areas → List ℕ → Outcome
-stepWith s r x out = outcomeOf (answer s r x) (next s r x) out
-
--- number, count, store, work area and output after a call, for every input of any length
-unfoldable pub stepOf : List ℕ → ℕ → List ℕ → List ℕ → List ℕ → List ℕ → Outcome
-stepOf r own table store work out = stepWith (settingOf own table store work out) r (record { store = store; work = work }) out
+-- number, count, what the device keeps, and the output after a call, for every input of any length
+unfoldable pub stepOf : Call → Outcome
+stepOf c = outcomeOf (c .own) (headerOf (c .frame)) (effectIn (settingOf c) (c .frame) (c .given)) (c .given) (c .out)

@@ -1,10 +1,16 @@
 // What a guest does with one frame (01, "One frame, one reply"): its meaning, in specs/, and the laws about it. No function: the code stands in judge, answers,
 // writes and device, over this type.
 
-// What a frame asks for, decided by checks 1 to 13 and no state.
+// The data bytes of every fragment but the last (01, "Served Read" and "Served fragment").
+pub const FRAGMENT_BYTES: u8 = 4;
+
+// The most frames of a reply, and the least bytes of an output that has room for them (01, check 1 and "0..64").
+pub const MOST_FRAMES: usize = 64;
+
+pub const LEAST_OUT: usize = MOST_FRAMES * codec::FRAME_SIZE;
+
+// What a frame that checks 1 to 6 let pass asks for, decided by checks 7 to 13 and no state.
 pub enum Plan {
-    // Refused with 1 to 6: no frame, and no object's.
-    Quiet(u8),
     // Refused with 7 to 13: one error frame.
     Error {
         number: u8,

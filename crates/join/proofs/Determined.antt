@@ -2,6 +2,7 @@
 use mathlib.Core.Path.{_≡_, sym, _∙_}
 use denote.Ref.{now}
 use Rattle.join.proofs.place.place_of.Reads as place-of
+use Rattle.join.proofs.order.is_shaped.Reads as is-shaped
 use Rattle.join.proofs.order.is_astray.Reads as is-astray
 use Rattle.join.proofs.order.is_last.Reads as is-last
 use Rattle.join.proofs.keeping.keep.Reads as keep
@@ -12,6 +13,9 @@ use Rattle.join.proofs.joining.join_into.Reads as join-into
 
 pub place-of-determined : (κs : _) (args : _) (r r' : _) (s s' : _) → place-of.Post κs args r s → place-of.Post κs args r' s' → r ≡ r'
 place-of-determined κs args r r' s s' p q = p ∙ sym q
+
+pub is-shaped-determined : (κs : _) (args : _) (r r' : _) (s s' : _) → is-shaped.Post κs args r s → is-shaped.Post κs args r' s' → r ≡ r'
+is-shaped-determined κs args r r' s s' p q = p ∙ sym q
 
 pub is-astray-determined : (κs : _) (args : _) (r r' : _) (s s' : _) → is-astray.Post κs args r s → is-astray.Post κs args r' s' → r ≡ r'
 is-astray-determined κs args r r' s s' p q = p ∙ sym q
@@ -28,13 +32,16 @@ pub clear-determined : (κs : _) (args : _) (r r' : _) (s s' : _) → clear.Post
 clear-determined κs args r r' s s' p q = p ∙ sym q
 
 pub join-into-determined : (κs : _) (args : _) (r r' : _) (s s' : _) → join-into.Post κs args r s → join-into.Post κs args r' s'
-    → now (s .1 .1 .1 .1 .0) ≡ now (s' .1 .1 .1 .1 .0)
+    → now (s .1 .1 .1 .1 .1 .0) ≡ now (s' .1 .1 .1 .1 .1 .0)
 join-into-determined κs args r r' s s' p q = p ∙ sym q
 
 -- ---- nothing is asked of a caller
 
 pub place-of-asks-nothing : (κs : _) (args : _) → place-of.Asked κs args
 place-of-asks-nothing κs args = tt
+
+pub is-shaped-asks-nothing : (κs : _) (args : _) → is-shaped.Asked κs args
+is-shaped-asks-nothing κs args = tt
 
 pub is-astray-asks-nothing : (κs : _) (args : _) → is-astray.Asked κs args
 is-astray-asks-nothing κs args = tt

@@ -1,4 +1,5 @@
 pub mod Places
+pub mod Keys
 pub mod Records
 pub mod Joins
 pub mod Parts

@@ -2,7 +2,7 @@
 use Prim.Native.Nat.{ℕ, _+_, _*_, _-_, _<_, _≤_}
 use mathlib.Core.Path.{_≡_, refl, sym, ap, _∙_}
 use mathlib.Core.Bool.{true, or-true}
-use mathlib.Core.List.{List, [], _∷_, _++_, append-nil, append-assoc}
+use mathlib.Core.List.{List, [], _++_, append-nil, append-assoc}
 use native.Mathlib.Omega.{arith}
 use lib.ListN.{length, take, drop, length-append, length-take, length-drop, List·getD-eq-default}
 use lib.Seq.{take-take, take-at, take-length, drop-length}
@@ -11,14 +11,17 @@ use borrow.Author.Tests.{leb-true, leb-false, eq-eqb, ne-eqb, le-leb, lt-ltb, le
 use borrow.Rule.Slice.PartMut.{putMid, post-is, mid-len}
 use Rattle.laws.specs.Put.{put}
 use Rattle.laws.proofs.Bytes.{copied}
+use Rattle.laws.proofs.Put.{put-nothing}
 use Rattle.laws.proofs.Tests.{split}
-use Rattle.join.specs.Work.{Piece, Work, kept, load, astray, areaAfter}
-use Rattle.join.specs.Code.{keepFits, joinFits}
+use Rattle.join.specs.Work.{headSize, dataSize, Joiner, Piece, Work, kept, load, astray, withData, headOf, areaAfter}
+use Rattle.join.specs.Code.{keepFits, joinFits, joinedFrom}
+use Rattle.join.proofs.Keys.{same-key}
 
--- what a record holds before a fragment's place is what the area holds there
-pub held-part : (at number : ℕ) (l : List ℕ) → 4 * number ≤ 255 → take (4 * number) (load at l .held) ≡ take (4 * number) (drop (at + 4) l)
+-- what a record holds before a fragment's place, and the fragment's bytes, are the joined bytes that are read off the area
+pub held-part : (j : Joiner) (at number : ℕ) (l body : List ℕ) → j .width * number ≤ dataSize
+    → take (j .width * number) (load j at l .held) ++ body ≡ joinedFrom l at (j .width) number body
 unfolding load
-held-part at number l h = take-take (4 * number) 255 (drop (at + 4) l) h
+held-part j at number l body h = rw (take-take (j .width * number) dataSize (drop (at + headSize) l) h)
 
 -- bytes copied into a middle part of their length are put there
 pub put-mid : (at end : ℕ) (l m b : List ℕ) → end ≡ at + length b → m ≡ b → putMid at (end - at) l m ≡ put l at b
@@ -39,42 +42,42 @@ both-copied held front body part mid last n k e f =
     let first : take held mid ≡ front = ap (take held) e ∙ rw (take-length front) (take-at front (drop (length front) part) held n) in
     rw (whole, post-is held (length mid) mid (omega arith), drop-length mid, append-nil body, first)
 
--- a fragment's data put at their place, and then what stands before a record's data
-pub both-put : (at place : ℕ) (p : Piece) (l m k : List ℕ) → place ≡ at + 4 + 4 * p .number
-    → m ≡ put l place (p .bytes) → k ≡ put m at (1 ∷ p .id ∷ p .total ∷ (p .number + 1) ∷ []) → k ≡ areaAfter 4 at p kept l
+-- a fragment's data put at their place, and then what stands before a record's data: all that is put of a fragment whose key has one byte
+pub both-put : (j : Joiner) (at place : ℕ) (p : Piece) (l m k : List ℕ) → drop 1 (p .key) ≡ [] → place ≡ at + headSize + j .width * p .number
+    → m ≡ put l place (p .bytes) → k ≡ put m at (headOf p) → k ≡ areaAfter j at p kept l
 unfolding areaAfter
-both-put at place p l m k q e f = rw (f, e, q)
+both-put j at place p l m k o q e f = rw (f, e, q, o) (sym (put-nothing (put (withData j at p l) at (headOf p)) _))
 
 -- ---- where the lent slices have room
 
-pub keeps : (at number body work : ℕ) → number < 255 → at + 4 + 4 * number + body ≤ work → keepFits at number body work ≡ true
+pub keeps : (work at w number body : ℕ) → number < 255 → at + headSize + w * number + body ≤ work → keepFits work at w number body ≡ true
 unfolding keepFits
-keeps at number body work n h = simp (lt-ltb number 255 n, le-leb (at + 4 + 4 * number + body) work h)
+keeps work at w number body n h = simp (lt-ltb number 255 n, le-leb (at + headSize + w * number + body) work h)
 
-pub joins : (at number body work part : ℕ) → at + 4 + 4 * number ≤ work → part ≡ 4 * number + body → joinFits at number body work part ≡ true
+pub joins : (work at w number body part : ℕ) → at + headSize + w * number ≤ work → part ≡ w * number + body → joinFits work at w number body part ≡ true
 unfolding joinFits
-joins at number body work part h e = simp (le-leb (at + 4 + 4 * number) work h, eq-eqb part (4 * number + body) e)
+joins work at w number body part h e = simp (le-leb (at + headSize + w * number) work h, eq-eqb part (w * number + body) e)
 
 -- ---- check 14
 
 -- it does not look at the fragment's data
-pub astray-any : (w : ℕ) (r : Work) (p : Piece) → astray w r (record { id = p .id; total = p .total; number = p .number; bytes = [] }) ≡ astray w r p
+pub astray-any : (j : Joiner) (r : Work) (p : Piece) → astray j r (record { key = p .key; total = p .total; number = p .number; bytes = [] }) ≡ astray j r p
 unfolding astray
-astray-any w r p = refl
+astray-any j r p = refl
 
 -- where the area lacks the next number, no fragment but number 0 passes
-pub lacking : (w at : ℕ) (l : List ℕ) (p : Piece) → (p .number ≡ 0 → ⊥) → length l ≤ at + 3 → astray w (load at l) p ≡ true
+pub lacking : (j : Joiner) (at : ℕ) (l : List ℕ) (p : Piece) → (p .number ≡ 0 → ⊥) → length l ≤ at + 3 → astray j (load j at l) p ≡ true
 unfolding load astray
-lacking w at l p n h =
+lacking j at l p n h =
     simp (List·getD-eq-default l 0 {n = at + 3} h, ne-eqb (p .number) 0 n, ne-eqb 0 (p .number) (λ e. n (sym e)), or-true)
 
 -- a record that agrees with a fragment, which is not number 0, lets it pass where its place is inside the total
-pub agreed : (w : ℕ) (r : Work) (p : Piece) → (p .number ≡ 0 → ⊥)
-    → r .status ≡ 1 → r .id ≡ p .id → r .total ≡ p .total → r .next ≡ p .number → astray w r p ≡ leb (p .total) (w * p .number)
+pub agreed : (j : Joiner) (r : Work) (p : Piece) → (p .number ≡ 0 → ⊥)
+    → r .status ≡ 1 → r .key ≡ p .key → r .total ≡ p .total → r .next ≡ p .number → astray j r p ≡ leb (p .total) (j .width * p .number)
 unfolding astray
-agreed w r p n s i t k =
+agreed j r p n s i t k =
     rw (s, t, k)
-    (simp (ne-eqb (p .number) 0 n, eq-eqb (r .id) (p .id) i, eq-eqb (p .total) (p .total) refl, eq-eqb (p .number) (p .number) refl, le-leb 1 (p .number) (omega arith))
-    (split (leb (p .total) (w * p .number))
-    (λ e. simp (e, le-ltb (w * p .number) (p .total) (leb-true (p .total) (w * p .number) e)))
-    (λ e. simp (e, lt-ltb (w * p .number) (p .total) (leb-false (p .total) (w * p .number) e)))))
+    (simp (ne-eqb (p .number) 0 n, same-key (r .key) (p .key) .1 i, eq-eqb (p .total) (p .total) refl, eq-eqb (p .number) (p .number) refl, le-leb 1 (p .number) (omega arith))
+    (split (leb (p .total) (j .width * p .number))
+    (λ e. simp (e, le-ltb (j .width * p .number) (p .total) (leb-true (p .total) (j .width * p .number) e)))
+    (λ e. simp (e, lt-ltb (j .width * p .number) (p .total) (leb-false (p .total) (j .width * p .number) e)))))

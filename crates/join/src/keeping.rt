@@ -6,10 +6,10 @@ ghost use Prim.Native.Nat.{_+_, _≤_};
 ghost use lib.Dec.{ltb};
 ghost use lib.ListN.{length};
 ghost use Rattle.laws.specs.Put.{put};
-ghost use Rattle.join.specs.Work.{kept, areaAfter};
+ghost use Rattle.join.specs.Work.{dropped, headSize, simple, kept, areaAfter};
 ghost use Rattle.join.specs.Code.{keepFits};
 use crate::place::HEAD;
-use crate::place::ID;
+use crate::place::KEY;
 use crate::place::NEXT;
 use crate::place::TOTAL;
 use crate::place::room_from;
@@ -24,40 +24,40 @@ fn put_at(area: &mut [u8], place: usize, body: &[u8])
     bytes::copy(body, &mut area[place..end]);
 }
 
-// Sets what stands before a record's data: status 1, ID, total and next number.
-fn mark(work: &mut [u8], at: usize, id: u8, total: u8, next: u8)
-    requires { ⌜ at + 4 ≤ length (now work) ⌝ }
-    ensures { λ _. ⌜ now (work .exit) ≡ put (now (work .entry)) at (1 ∷ id ∷ total ∷ next ∷ []) ⌝ }
+// Sets what stands before a record's data: status 1, key, total and next number.
+fn mark(work: &mut [u8], at: usize, key: u8, total: u8, next: u8)
+    requires { ⌜ at + headSize ≤ length (now work) ⌝ }
+    ensures { λ _. ⌜ now (work .exit) ≡ put (now (work .entry)) at (1 ∷ key ∷ total ∷ next ∷ []) ⌝ }
 {
     work[at] = 1;
-    work[at + ID] = id;
+    work[at + KEY] = key;
     work[at + TOTAL] = total;
     work[at + NEXT] = next;
 }
 
-// Keeps a fragment that is not its message's last: status 1, ID, total, next number, and its data at 4 + 4n of the record.
+// Keeps a fragment that is not its message's last: status 1, key, total, next number, and its data at their place of the record.
 // Where the area has no room for the data, or the next number is no byte, the area stays.
-pub fn keep(work: &mut [u8], at: usize, id: u8, total: u8, number: u8, body: &[u8])
+pub fn keep(work: &mut [u8], at: usize, width: u8, key: u8, total: u8, number: u8, body: &[u8])
     ensures { λ _. ⌜ now (work .exit)
-        ≡ cond (keepFits at number (length (now (body .entry))) (length (now (work .entry))))
-        (areaAfter 4 at (record { id = id; total = total; number = number; bytes = now (body .entry) }) kept (now (work .entry)))
+        ≡ cond (keepFits (length (now (work .entry))) at width number (length (now (body .entry))))
+        (areaAfter (simple width) at (record { key = key ∷ []; total = total; number = number; bytes = now (body .entry) }) kept (now (work .entry)))
         (now (work .entry)) ⌝ }
 {
     if number == 255 {
         return;
     }
-    let place = HEAD + start_of(number);
+    let place = HEAD + start_of(width, number);
     if room_from(work.len(), at) < place + body.len() {
         return;
     }
     put_at(work, at + place, body);
-    mark(work, at, id, total, number + 1);
+    mark(work, at, key, total, number + 1);
 }
 
 // Drops what the record at a place holds: its status becomes 0.
 pub fn clear(work: &mut [u8], at: usize)
     ensures { λ _. ⌜ now (work .exit)
-        ≡ cond (ltb at (length (now (work .entry)))) (put (now (work .entry)) at (0 ∷ [])) (now (work .entry)) ⌝ }
+        ≡ cond (ltb at (length (now (work .entry)))) (dropped at (now (work .entry))) (now (work .entry)) ⌝ }
 {
     if work.len() <= at {
         return;

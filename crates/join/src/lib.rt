@@ -1,4 +1,4 @@
-// Joining the fragments of a message in a work record of 260 bytes (01, "Object table, store, work area").
+// Joining the fragments of a message in a work record (01, "Object table, store, work area"), over the bytes per fragment and with a key of one byte.
 mod joining;
 mod keeping;
 mod order;
@@ -9,4 +9,8 @@ pub use keeping::clear;
 pub use keeping::keep;
 pub use order::is_astray;
 pub use order::is_last;
+pub use order::is_shaped;
+pub use place::AREA;
+pub use place::RECORD;
+pub use place::RECORDS;
 pub use place::place_of;

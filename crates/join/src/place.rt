@@ -1,22 +1,24 @@
 // Places: of a record in the work area, and of a fragment's data among the joined bytes.
 ghost use mathlib.Core.Path.{_≡_};
-ghost use Prim.Native.Nat.{_-_, _*_};
+ghost use Prim.Native.Nat.{_-_};
+ghost use Rattle.join.specs.Code.{Start};
 ghost use Rattle.join.specs.Work.{base};
 
-// A record: "32 records of 260 bytes, one per object".
-const RECORD: usize = 260;
+// "32 records of 260 bytes, one per object".
+pub const RECORD: usize = 260;
+
+pub const RECORDS: usize = 32;
+
+pub const AREA: usize = RECORDS * RECORD;
 
 // Where things stand in a record: "Byte 0 status, 1 attribute ID, 2 total, 3 next number k, 4..258 data".
-pub(crate) const ID: usize = 1;
+pub(crate) const KEY: usize = 1;
 
 pub(crate) const TOTAL: usize = 2;
 
 pub(crate) const NEXT: usize = 3;
 
 pub(crate) const HEAD: usize = 4;
-
-// The data bytes of every fragment but the last.
-pub(crate) const BYTES: usize = 4;
 
 // The place of an object's record.
 pub fn place_of(object: u8) -> usize
@@ -25,11 +27,11 @@ pub fn place_of(object: u8) -> usize
     RECORD * (object as usize)
 }
 
-// Where a fragment's data begin among the joined bytes, 4n. It takes more than eight bits.
-pub(crate) fn start_of(number: u8) -> usize
-    ensures { λ r. ⌜ r ≡ 4 * number ⌝ }
+// Where a fragment's data begin among the joined bytes. It takes more than eight bits.
+pub(crate) fn start_of(width: u8, number: u8) -> usize
+    ensures { λ r. ⌜ Start width number r ⌝ }
 {
-    BYTES * (number as usize)
+    (width as usize) * (number as usize)
 }
 
 // How many bytes an area of a size has from a place on: none where the place is behind its end.

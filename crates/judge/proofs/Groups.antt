@@ -1,18 +1,20 @@
--- Checks in groups are 01's list: the plan decided group by group, and what the code makes of a Request.
+-- Checks in groups are 01's list: what is judged of a frame group by group, and what the code makes of a Request.
 use Prim.Native.Nat.{ℕ, _≤_, _<_}
 use mathlib.Core.Path.{_≡_, refl, sym, ap, _∙_}
-use mathlib.Core.Bool.{Bool, true, false, cond, not, _&&_, _||_}
+use mathlib.Core.Bool.{Bool, true, false, cond, not, _||_}
 use mathlib.Mathlib.Data.Bool.Basic.{or-eq-false-eq-eq-false-and-eq-false as neither}
-use mathlib.Core.List.{List, [], _∷_, _++_}
+use mathlib.Core.List.{List, _++_}
 use native.Mathlib.Omega.{arith}
 use lib.ListN.{length}
-use lib.Dec.{eqb, leb, ltb}
-use borrow.Author.Tests.{eqb-true, eqb-false, ltb-true, ltb-false, eq-eqb, ne-eqb, lt-ltb, le-ltb, le-leb}
+use lib.Dec.{eqb, ltb}
+use borrow.Author.Tests.{not-true, not-false, eqb-true, eqb-false, ltb-false, eq-eqb, ne-eqb, lt-ltb, le-ltb, le-leb, lt-leb}
 use Rattle.laws.specs.Checks.{Check, firstOf, holdsAt, risesFrom}
 use Rattle.laws.proofs.Tests.{split, clash}
-use Rattle.laws.proofs.Checks.{first-append, first-most, none-holds}
+use Rattle.laws.proofs.Checks.{above, first-append, first-most, none-holds}
+use Rattle.octets.specs.declared.Data.{Data}
 use Rattle.octets.specs.Data.{dataOf}
 use Rattle.codec.specs.declared.Header.{Header}
+use Rattle.codec.specs.declared.Subject.{Subject}
 use Rattle.codec.specs.declared.Message.{Message}
 use Rattle.codec.specs.declared.Message.the-variants.{Short, Plain, Fragment}
 use Rattle.codec.specs.declared.Answer.{Answer}
@@ -26,13 +28,15 @@ use Rattle.codec.proofs.Promises.{reads-exactly}
 use Rattle.table.specs.declared.Attribute.{Attribute}
 use Rattle.table.specs.declared.Found.{Found}
 use Rattle.table.specs.declared.Found.the-variants.{At, Nothing}
-use Rattle.table.specs.Table.{readable, writable, wellFormed}
+use Rattle.table.specs.Table.{readable, writable, Ordered}
+use Rattle.join.specs.Work.{shapedBy}
+use Rattle.table.proofs.Tables.{search-finds}
 use Rattle.guest.specs.declared.Plan.{Plan}
-use Rattle.guest.specs.declared.Plan.the-variants.{Quiet, Error, Read, Write, Join}
-use Rattle.guest.specs.Checks.{Setting, misfit, noService, actionOrEvent, badShape, soughtIn}
-use Rattle.guest.specs.Step.{served, refused, planOf}
-use Rattle.guest.proofs.Plans.{fit, passed}
-use Rattle.judge.specs.Code.{routeChecks, quietChecks, shapeChecks, attributeChecks, planBy, requestPlan, readFound, readPlan, bodyPlan, writePlan, answered, planByService}
+use Rattle.guest.specs.declared.Plan.the-variants.{Error, Join}
+use Rattle.guest.specs.Checks.{Setting, noService, actionOrEvent, badShape, fragmentBytes, soughtIn, planChecks}
+use Rattle.guest.specs.Step.{served, Judged, quiet, asks, judgedOf}
+use Rattle.guest.proofs.Plans.{accepted, passed}
+use Rattle.judge.specs.Code.{quietChecks, soughtBy, shapeChecks, pieceChecks, attributeChecks, planBy, requestPlan, readFound, readPlan, bodyPlan, writePlan, answered, planByService}
 
 -- two groups of checks, one after the other
 plan-append : (cs ds : List Check) → risesFrom 0 cs ≡ true → (o : ℕ) (p : Plan)
@@ -41,16 +45,55 @@ plan-append cs ds r o p =
     let a = first-append 0 cs ds r in
     split (eqb (firstOf cs) 0) (λ t. rw a (simp t)) (λ t. rw a (simp t))
 
-pub plan-by-groups : (s : Setting) (r : List ℕ)
-    → planOf s r ≡ planBy (firstOf (quietChecks s r)) (headerOf r .object) (requestPlan (s .table) r)
-unfolding planOf
-plan-by-groups s r =
-    let h = headerOf r in
-    let o = h .object in
-    let late = attributeChecks h (messageOf r) (soughtIn (s .table) h) in
-    let p = served h (messageOf r) (soughtIn (s .table) h) in
-    plan-append (quietChecks s r) (shapeChecks h ++ late) refl o p
-    ∙ ap (planBy (firstOf (quietChecks s r)) o) (plan-append (shapeChecks h) late refl o p)
+-- checks 1 to 6 put no frame, and what they let pass is a Request
+module _ (s : Setting) (r : List ℕ) where
+  later : List Check
+  later = shapeChecks (headerOf r) ++ attributeChecks (headerOf r) (messageOf r) (soughtIn (s .table) (headerOf r))
+
+  first-is : firstOf (planChecks s r) ≡ cond (eqb (firstOf (quietChecks s r)) 0) (firstOf later) (firstOf (quietChecks s r))
+  unfolding later
+  first-is = first-append 0 (quietChecks s r) later refl
+
+  pub quiet-judged : (firstOf (quietChecks s r) ≡ 0 → ⊥) → judgedOf s r ≡ quiet (firstOf (quietChecks s r))
+  unfolding judgedOf
+  quiet-judged z =
+      let n = firstOf (quietChecks s r) in
+      let zero = ne-eqb n 0 z in
+      let six = le-leb n 6 (first-most 6 (quietChecks s r) refl) in
+      rw first-is (simp (zero, six))
+
+  late : (firstOf later ≡ 0 → ⊥) → 6 < firstOf later
+  unfolding later
+  late z = above 6 later refl (omega (arith, z))
+
+  by-groups : planBy (firstOf later) (headerOf r .object) (served (headerOf r) (messageOf r) (soughtIn (s .table) (headerOf r))) ≡ requestPlan (s .table) r
+  unfolding later
+  by-groups = plan-append (shapeChecks (headerOf r)) (attributeChecks (headerOf r) (messageOf r) (soughtIn (s .table) (headerOf r))) refl (headerOf r .object) _
+
+  pub request-judged : firstOf (quietChecks s r) ≡ 0 → judgedOf s r ≡ asks (requestPlan (s .table) r)
+  unfolding judgedOf
+  request-judged e =
+      rw (first-is, e)
+      (split (eqb (firstOf later) 0)
+      (λ t. simp t (ap {B = Judged} asks (simp t at by-groups)))
+      (λ t.
+      let six = lt-leb (firstOf later) 6 (late (eqb-false (firstOf later) 0 t)) in
+      simp (t, six) (ap {B = Judged} asks (simp t at by-groups))))
+
+-- ---- a fragment, by what the joiner says of its shape
+
+module _ (object : ℕ) (to : Attribute) (number total : ℕ) (b : Data) (t : Bool) (e : t ≡ shapedBy fragmentBytes total number (b .len)) (u : Subject) where
+  abbrev judged : Plan
+  judged = planBy (firstOf (pieceChecks (Fragment u number total b))) object (Join to number total b)
+
+  pub unshaped : not t ≡ true → Error 12 object ≡ judged
+  unshaped q = simp (sym e ∙ not-true t q)
+
+  pub too-high : not t ≡ false → 63 < number → Error 13 object ≡ judged
+  too-high q h = simp (sym e ∙ not-false t q, lt-ltb 63 number h)
+
+  pub sound-piece : not t ≡ false → number ≤ 63 → Join to number total b ≡ judged
+  sound-piece q h = simp (sym e ∙ not-false t q, le-ltb 63 number h)
 
 -- ---- a Request, by its service
 
@@ -80,7 +123,11 @@ write-as-checks h e m l (At a) = split (writable a) (λ t. go m l t) (λ t. simp
     go (Fragment u n k b) l t = split (eqb k (a .len)) (λ q. simp (read, write, t, q)) (λ q. simp (read, write, t, q))
 
 -- a Request that checks 3 to 6 let pass
-module _ (table r : List ℕ) (b : barred (headerOf r) ≡ false) (v : noService (headerOf r) ≡ false) where
+module _ (table r : List ℕ) (ordered : Ordered table) (b : barred (headerOf r) ≡ false) (v : noService (headerOf r) ≡ false) where
+  -- the code's search finds what the definition seeks
+  found-so : soughtBy table (headerOf r) ≡ soughtIn table (headerOf r)
+  found-so = search-finds table (headerOf r .object) (headerOf r .id) ordered
+
   long : headerOf r .dlc ≡ 0 → ⊥
   long q = omega (arith, ltb-false (headerOf r .dlc) 2 (neither (ltb (headerOf r .dlc) 2) (ltb (headerOf r .service) 4) .0 v .0))
 
@@ -139,7 +186,7 @@ module _ (table r : List ℕ) (b : barred (headerOf r) ≡ false) (v : noService
   request-by-service : length r ≡ 10 → planByService table (headerOf r) r ≡ requestPlan table r
   unfolding planByService
   request-by-service n =
-      split (ltb 5 (headerOf r .service))
+      split (actionOrEvent (headerOf r))
       (λ t. simp t)
       (λ t. split (eqb (headerOf r .service) readService)
       (λ q. of-read t q ∙ read-request (eqb-true (headerOf r .service) readService q))
@@ -148,13 +195,13 @@ module _ (table r : List ℕ) (b : barred (headerOf r) ≡ false) (v : noService
       let e : headerOf r .service ≡ writeService = omega (arith, ltb-false 5 (headerOf r .service) t, eqb-false (headerOf r .service) readService q) in
       of-write t q ∙ by-answer e (readOf r) refl))
     where
-      of-read : ltb 5 (headerOf r .service) ≡ false → eqb (headerOf r .service) readService ≡ true
+      of-read : actionOrEvent (headerOf r) ≡ false → eqb (headerOf r .service) readService ≡ true
           → planByService table (headerOf r) r ≡ readPlan (headerOf r) (soughtIn table (headerOf r))
-      of-read t q = simp (t, q)
+      of-read t q = rw found-so (simp (t, q))
 
-      of-write : ltb 5 (headerOf r .service) ≡ false → eqb (headerOf r .service) readService ≡ false
+      of-write : actionOrEvent (headerOf r) ≡ false → eqb (headerOf r .service) readService ≡ false
           → planByService table (headerOf r) r ≡ answered (headerOf r .object) (soughtIn table (headerOf r)) (readOf r)
-      of-write t q = simp (t, q)
+      of-write t q = rw found-so (simp (t, q))
 
       by-answer : headerOf r .service ≡ writeService → (a : Answer) → readOf r ≡ a
           → answered (headerOf r .object) (soughtIn table (headerOf r)) a ≡ requestPlan table r
@@ -163,31 +210,16 @@ module _ (table r : List ℕ) (b : barred (headerOf r) ≡ false) (v : noService
           let w = write-request e m p in
           write-as-checks (headerOf r) e m (w .0) (soughtIn table (headerOf r)) ∙ w .1
 
--- ---- a call, check by check
+-- ---- a call
 
--- checks 1 to 6 put no frame
-plan-quiet : (s : Setting) (r : List ℕ) (n : ℕ) → n ≡ firstOf (quietChecks s r) → (n ≡ 0 → ⊥) → planOf s r ≡ Quiet n
-plan-quiet s r n e z =
-    let q = firstOf (quietChecks s r) in
-    plan-by-groups s r ∙ simp (ne-eqb q 0 (λ k. z (e ∙ k)), le-leb q 6 (first-most 6 (quietChecks s r) refl)) (ap Quiet (sym e))
-
-pub plan-misfit : (s : Setting) (r : List ℕ) → misfit s r ≡ true → planOf s r ≡ Quiet 1
-plan-misfit s r m = plan-quiet s r 1 (simp m) (λ q. omega (arith, q))
-
-module _ (s : Setting) (r : List ℕ) (m : misfit s r ≡ false) where
-  pub plan-ill-formed : wellFormed (s .table) (s .store) ≡ false → planOf s r ≡ Quiet 2
-  plan-ill-formed w = plan-quiet s r 2 (simp (m, w)) (λ q. omega (arith, q))
-
-  module _ (w : wellFormed (s .table) (s .store) ≡ true) (n : ℕ) (e : n ≡ firstOf (routeChecks (s .own) (headerOf r))) where
-    first : firstOf (quietChecks s r) ≡ n
-    first = simp (m, w) (sym e)
-
-    pub plan-unrouted : (n ≡ 0 → ⊥) → planOf s r ≡ Quiet n
-    plan-unrouted z = plan-quiet s r n (sym first) z
-
-    -- what none of the six refuses: the plan is that of a Request, as the code finds it by the service
-    pub plan-request : n ≡ 0 → planByService (s .table) (headerOf r) r ≡ planOf s r
-    unfolding holdsAt
-    plan-request z =
-        let none = none-holds (quietChecks s r) refl .0 (first ∙ z) in
-        request-by-service (s .table) r (none 3) (none 5) (fit s r m .ten) ∙ sym (plan-by-groups s r ∙ simp (first ∙ z))
+-- a Request that checks 1 to 6 let pass: what the code finds by the service is what 01's list gives
+pub request-planned : (s : Setting) (r : List ℕ) → firstOf (quietChecks s r) ≡ 0 → (h : Header) → h ≡ headerOf r
+    → (p : Plan) → p ≡ planByService (s .table) h r → judgedOf s r ≡ asks p
+unfolding holdsAt
+request-planned s r e h he p pe =
+    let none = none-holds (quietChecks s r) refl .0 e in
+    let ordered : Ordered (s .table) = (s .storeLen, not-false _ (none 2)) in
+    request-judged s r e
+    ∙ ap {B = Judged} asks
+    (sym (pe ∙ ap (λ (k : Header). planByService (s .table) k r) he
+    ∙ request-by-service (s .table) r ordered (none 3) (none 5) (accepted s r (none 1) .ten)))

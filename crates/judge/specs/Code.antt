@@ -1,10 +1,9 @@
 -- The checks in the groups in which the code decides them, and what it makes of a Request.
-use Prim.Native.Nat.{ℕ, _-_, _*_, min}
-use mathlib.Core.Bool.{Bool, true, false, cond, not, _||_}
-use mathlib.Core.List.{List, [], _∷_, _++_}
-use lib.Dec.{eqb, ltb}
+use Prim.Native.Nat.{ℕ}
+use mathlib.Core.Bool.{cond, not, _||_}
+use mathlib.Core.List.{List, [], _∷_}
+use lib.Dec.{eqb}
 use Rattle.laws.specs.Checks.{Check, firstOf}
-use Rattle.octets.specs.declared.Data.{Data}
 use Rattle.codec.specs.declared.Header.{Header}
 use Rattle.codec.specs.declared.Message.{Message}
 use Rattle.codec.specs.declared.Message.the-variants.{Short, Plain, Fragment}
@@ -16,15 +15,11 @@ use Rattle.codec.specs.Reading.{barred, messageOf, readOf}
 use Rattle.table.specs.declared.Attribute.{Attribute}
 use Rattle.table.specs.declared.Found.{Found}
 use Rattle.table.specs.declared.Found.the-variants.{At, Nothing}
-use Rattle.table.specs.Table.{readable, writable}
+use Rattle.table.specs.Table.{readable, writable, searched}
 use Rattle.guest.specs.declared.Plan.{Plan}
-use Rattle.guest.specs.declared.Plan.the-variants.{Quiet, Error, Read, Write, Join}
+use Rattle.guest.specs.declared.Plan.the-variants.{Error, Read, Write, Join}
 use Rattle.guest.specs.Checks.{Setting, misfit, illFormed, notForUs, noService, notRequest, actionOrEvent, badShape, unknown, noAccess, wrongLength, wrongPiece, highNumber, soughtIn}
-use Rattle.guest.specs.Step.{served, refused}
-
--- checks 1 and 2, of the call
-abbrev pub callChecks : Setting → List ℕ → List Check
-callChecks s r = (misfit s r, 1) ∷ (illFormed s, 2) ∷ []
+use Rattle.guest.specs.Step.{served}
 
 -- checks 3 to 6, of the header
 abbrev pub routeChecks : ℕ → Header → List Check
@@ -32,20 +27,23 @@ routeChecks own h = (barred h, 3) ∷ (notForUs own h, 4) ∷ (noService h, 5) �
 
 -- 1 to 6: those that put no frame
 abbrev pub quietChecks : Setting → List ℕ → List Check
-quietChecks s r = callChecks s r ++ routeChecks (s .own) (headerOf r)
+quietChecks s r = (misfit s r, 1) ∷ (illFormed s, 2) ∷ routeChecks (s .own) (headerOf r)
 
 -- 7 and 8, of the header
 abbrev pub shapeChecks : Header → List Check
 shapeChecks h = (actionOrEvent h, 7) ∷ (badShape h, 8) ∷ []
 
+-- checks 12 and 13, of a fragment
+abbrev pub pieceChecks : Message → List Check
+pieceChecks m = (wrongPiece m, 12) ∷ (highNumber m, 13) ∷ []
+
 -- checks 9 to 13, of the attribute and the message
 abbrev pub attributeChecks : Header → Message → Found → List Check
-attributeChecks h m found =
-    (unknown found, 9) ∷ (noAccess h found, 10) ∷ (wrongLength h m found, 11) ∷ (wrongPiece m, 12) ∷ (highNumber m, 13) ∷ []
+attributeChecks h m found = (unknown found, 9) ∷ (noAccess h found, 10) ∷ (wrongLength h m found, 11) ∷ pieceChecks m
 
 -- refused with a number, or what comes after
 abbrev pub planBy : ℕ → ℕ → Plan → Plan
-planBy n object p = cond (eqb n 0) p (refused n object)
+planBy n object p = cond (eqb n 0) p (Error n object)
 
 -- the plan of a frame that passes checks 1 to 6
 abbrev pub requestPlan : List ℕ → List ℕ → Plan
@@ -64,17 +62,12 @@ readFound object (At a) = cond (readable a) (Read a) (Error 10 object)
 unfoldable pub readPlan : Header → Found → Plan
 readPlan h found = cond (eqb (h .flag) 1 || not (eqb (h .dlc) 2)) (Error 8 (h .object)) (readFound (h .object) found)
 
--- checks 12 and 13 of a fragment
-abbrev pub pieceChecks : ℕ → ℕ → Data → List Check
-pieceChecks number total b =
-    (not (ltb (4 * number) total) || not (eqb (b .len) (min 4 (total - 4 * number))), 12) ∷ (ltb 63 number, 13) ∷ []
-
--- and 11 to 13 of a Write; a message in short form is none
+-- and 11 to 13 of a Write; a message in short form is none, and check 5 has let none pass
 unfoldable pub bodyPlan : ℕ → Attribute → Message → Plan
-bodyPlan object a (Short dir address service) = Quiet 5
+bodyPlan object a (Short dir address service) = Error 8 object
 bodyPlan object a (Plain u b) = cond (eqb (b .len) (a .len)) (Write a b) (Error 11 object)
 bodyPlan object a (Fragment u number total b) =
-    cond (eqb total (a .len)) (planBy (firstOf (pieceChecks number total b)) object (Join a number total b)) (Error 11 object)
+    cond (eqb total (a .len)) (planBy (firstOf (pieceChecks (Fragment u number total b))) object (Join a number total b)) (Error 11 object)
 
 -- 9 to 13 of a Write
 unfoldable pub writePlan : ℕ → Message → Found → Plan
@@ -86,7 +79,11 @@ abbrev pub answered : ℕ → Found → Answer → Plan
 answered object found (Refused n) = Error 8 object
 answered object found (Got m) = writePlan object m found
 
+-- what the code's search finds for a header
+abbrev pub soughtBy : List ℕ → Header → Found
+soughtBy t h = searched t (h .object) (h .id)
+
 unfoldable pub planByService : List ℕ → Header → List ℕ → Plan
 planByService table h r =
-    cond (ltb 5 (h .service)) (Error 7 (h .object))
-    (cond (eqb (h .service) readService) (readPlan h (soughtIn table h)) (answered (h .object) (soughtIn table h) (readOf r)))
+    cond (actionOrEvent h) (Error 7 (h .object))
+    (cond (eqb (h .service) readService) (readPlan h (soughtBy table h)) (answered (h .object) (soughtBy table h) (readOf r)))

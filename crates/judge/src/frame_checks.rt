@@ -1,32 +1,33 @@
-// Checks 1 and 3 to 6: of the lengths and of the header. (Check 2 is the table's own.)
+// Checks 1 and 3 to 6, which put no frame: of the lengths and of the header. (Check 2, which puts none either, is the table's own.)
 ghost use mathlib.Core.Path.{_≡_};
 ghost use Rattle.laws.specs.Checks.{firstOf};
-ghost use Rattle.guest.specs.Checks.{setting, misfit as Checks·misfit};
+ghost use Rattle.guest.specs.Checks.{settingBy, misfit as Checks·misfit};
 ghost use Rattle.judge.specs.Code.{routeChecks};
 
-// Check 1.
-pub fn misfit(frame: &[u8], own: u32, table: &[u8], store: usize, work: usize, out: usize) -> bool
-    ensures { λ r. ⌜ r ≡ Checks·misfit (setting own (now (table .entry)) store work out) (now (frame .entry)) ⌝ }
+// Check 1. Own address is 32 bits wide, so that 265 is refused and not taken for 9.
+pub fn misfit(
+    frame: &[u8],
+    own: u32,
+    table: &[u8],
+    store_len: usize,
+    work_len: usize,
+    out_len: usize,
+) -> bool
+    ensures { λ r. ⌜ r ≡ Checks·misfit (settingBy own (now (table .entry)) «store_len» «work_len» «out_len») (now (frame .entry)) ⌝ }
 {
-    if frame.len() != 10 {
+    if !table::lengths_fit(table.len(), store_len) {
         return true;
     }
-    if table.len() % 8 != 0 {
+    if frame.len() != codec::FRAME_SIZE {
         return true;
     }
-    if 8192 < table.len() {
+    if work_len != join::AREA {
         return true;
     }
-    if 32768 < store {
+    if out_len < guest::LEAST_OUT {
         return true;
     }
-    if work != 8320 {
-        return true;
-    }
-    if out < 640 {
-        return true;
-    }
-    if 125 < own {
+    if (codec::MOST_ADDRESS as u32) < own {
         return true;
     }
     false
@@ -39,10 +40,10 @@ pub fn route_number(h: codec::Header, own: u32) -> u8
     if h.rtr == 1 {
         return 3;
     }
-    if 8 < h.dlc {
+    if codec::MOST_DLC < h.dlc {
         return 3;
     }
-    if 125 < h.address {
+    if codec::MOST_ADDRESS < h.address {
         return 3;
     }
     if h.dir == 1 {
@@ -54,10 +55,10 @@ pub fn route_number(h: codec::Header, own: u32) -> u8
     if h.dlc < 2 {
         return 5;
     }
-    if h.service < 4 {
+    if h.service < codec::LOWEST_LONG {
         return 5;
     }
-    if h.response != 0 {
+    if h.response != codec::REQUEST {
         return 6;
     }
     0

@@ -1,10 +1,9 @@
 // Checks 7 to 13, in 01's order: what a Request asks for. No state is looked at.
 ghost use mathlib.Core.Path.{_≡_};
 ghost use Rattle.laws.specs.Checks.{firstOf};
-ghost use Rattle.guest.specs.Checks.{soughtIn};
-ghost use Rattle.judge.specs.Code.{pieceChecks, planBy, bodyPlan, writePlan, readPlan, planByService};
-use crate::sizes::least;
-use crate::sizes::wide;
+ghost use Rattle.codec.specs.declared.Message.the-variants.{Fragment};
+ghost use Rattle.codec.specs.declared.Subject.{Subject};
+ghost use Rattle.judge.specs.Code.{soughtBy, pieceChecks, planBy, bodyPlan, writePlan, readPlan, planByService};
 use codec::Answer;
 use codec::Header;
 use codec::Message;
@@ -13,16 +12,11 @@ use octets::Data;
 use table::Attribute;
 use table::Found;
 
-// Checks 12 and 13 of a fragment. 4n is computed in more than eight bits.
+// Checks 12 and 13 of a fragment. (They do not look at its subject.)
 fn piece_plan(object: u8, to: Attribute, number: u8, total: u8, body: Data) -> Plan
-    ensures { λ r. ⌜ r ≡ planBy (firstOf (pieceChecks number total body)) object (Plan.Join to number total body) ⌝ }
+    ensures { λ r. ⌜ ((u : Subject) → r ≡ planBy (firstOf (pieceChecks (Fragment u number total body))) object (Plan.Join to number total body)) ⌝ }
 {
-    let start = 4 * wide(number);
-    let end = wide(total);
-    if end <= start {
-        return Plan::Error { number: 12, object };
-    }
-    if wide(body.len) != least(4, end - start) {
+    if !join::is_shaped(guest::FRAGMENT_BYTES, total, number, body.len) {
         return Plan::Error { number: 12, object };
     }
     if 63 < number {
@@ -45,7 +39,7 @@ fn body_plan(object: u8, a: Attribute, m: Message) -> Plan
             dir: _,
             address: _,
             service: _,
-        } => Plan::Quiet(5),
+        } => Plan::Error { number: 8, object },
         Message::Plain { about: _, body } => {
             if body.len != a.len {
                 return Plan::Error { number: 11, object };
@@ -68,7 +62,7 @@ fn body_plan(object: u8, a: Attribute, m: Message) -> Plan
 
 // Checks 9 to 13 of a Write.
 fn write_plan(table: &[u8], h: Header, m: Message) -> Plan
-    ensures { λ r. ⌜ r ≡ writePlan (h .object) m (soughtIn (now (table .entry)) h) ⌝ }
+    ensures { λ r. ⌜ r ≡ writePlan (h .object) m (soughtBy (now (table .entry)) h) ⌝ }
 {
     let object = h.object;
     let Found::At(a) = table::find(table, object, h.id) else {
@@ -82,7 +76,7 @@ fn write_plan(table: &[u8], h: Header, m: Message) -> Plan
 
 // Checks 8 to 10 of a Read. It has no data, so the codec is not asked for its message.
 fn read_plan(table: &[u8], h: Header) -> Plan
-    ensures { λ r. ⌜ r ≡ readPlan h (soughtIn (now (table .entry)) h) ⌝ }
+    ensures { λ r. ⌜ r ≡ readPlan h (soughtBy (now (table .entry)) h) ⌝ }
 {
     let object = h.object;
     if h.flag == 1 {
@@ -100,15 +94,15 @@ fn read_plan(table: &[u8], h: Header) -> Plan
     Plan::Error { number: 10, object }
 }
 
-// Checks 7 to 13: what a Request with this header asks for. Of one that passes checks 3 to 6 this is what 01's list gives (`plan-request`).
+// Checks 7 to 13: what a Request with this header asks for. Of one that passes checks 1 to 6 this is what 01's list gives (`request-planned`).
 pub fn request_plan(frame: &[u8], h: Header, table: &[u8]) -> Plan
     ensures { λ r. ⌜ r ≡ planByService (now (table .entry)) h (now (frame .entry)) ⌝ }
 {
     let object = h.object;
-    if 5 < h.service {
+    if codec::READ_SERVICE < h.service {
         return Plan::Error { number: 7, object };
     }
-    if h.service == 5 {
+    if h.service == codec::READ_SERVICE {
         return read_plan(table, h);
     }
     let Answer::Got(m) = codec::read(frame) else {

@@ -1,7 +1,6 @@
 // Judging: what a frame asks for, by checks 1 and 3 to 13 (01, "One frame, one reply"). No state is looked at and nothing is altered.
 mod frame_checks;
 mod judging;
-mod sizes;
 
 pub use frame_checks::misfit;
 pub use frame_checks::route_number;

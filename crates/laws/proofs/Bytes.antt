@@ -1,11 +1,11 @@
 -- Zeros behind a list, and a list that is stored element by element.
 use Prim.Native.Nat.{ℕ, zero, suc, _+_, _-_, _<_, _≤_}
 use mathlib.Core.Path.{_≡_, refl, sym, ap, _∙_}
-use mathlib.Core.Bool.{Bool, true, cond, _&&_, and-eq-true-iff}
+use mathlib.Core.Bool.{true, cond, _&&_, and-eq-true-iff}
 use mathlib.Core.List.{List, [], _∷_, _++_, append-nil}
 use native.Mathlib.Omega.{arith}
-use lib.ListN.{length, getD, take, drop, replicate, length-append, length-replicate, length-take, length-drop, drop-of-length-le, take-append-drop, List·getD-eq-default}
-use lib.Seq.{sets, sets-eq, take-add, take-all, take-length, drop-cons, length-take-le, getD-take, getD-drop}
+use lib.ListN.{length, getD, take, drop, replicate, length-append, length-replicate, length-take, length-drop, drop-of-length-le, List·getD-eq-default}
+use lib.Seq.{sets, sets-eq, take-add, take-length, drop-cons, length-take-le, getD-take, getD-drop}
 use native.Mathlib.Numerals.{add-one}
 use native.Mathlib.Nat.{add-zero}
 use lib.Dec.{eqb, ltb}
@@ -49,10 +49,6 @@ padded-take k most s h l z =
     let t = take-zeros (most - k) (length s - k) (omega arith) in
     let q : k + (most - k) ≡ most = omega arith in
     rw (n, ← t, ← d, ← take-add k (most - k) s, q)
-
--- all that stands behind the first k elements
-pub take-rest : (k : ℕ) (l : List ℕ) → take (length l - k) (drop k l) ≡ drop k l
-take-rest k l = take-all (length l - k) (drop k l) (simp length-drop (omega arith))
 
 -- stores at every place of a list leave what was stored
 pub stored : (l vs : List ℕ) → length l ≡ length vs → sets l 0 vs ≡ vs
@@ -108,8 +104,8 @@ abbrev pub places : ℕ → ℕ → List ℕ → List ℕ
 places zero k l = []
 places (suc n) k l = getD l k 0 ∷ places n (suc k) l
 
-pub placed : (n k : ℕ) (l : List ℕ) → k + n ≤ length l → places n k l ++ drop (k + n) l ≡ drop k l
-placed zero k l h = ap (λ (i : ℕ). drop i l) (add-zero k)
-placed (suc n) k l h =
+pub places-back : (n k : ℕ) (l : List ℕ) → k + n ≤ length l → places n k l ++ drop (k + n) l ≡ drop k l
+places-back zero k l h = ap (λ (i : ℕ). drop i l) (add-zero k)
+places-back (suc n) k l h =
     let q : k + suc n ≡ suc k + n = omega arith in
-    rw q (ap (λ (t : List ℕ). getD l k 0 ∷ t) (placed n (suc k) l (omega arith)) ∙ sym (drop-cons l k 0 (omega arith)))
+    rw q (ap (λ (t : List ℕ). getD l k 0 ∷ t) (places-back n (suc k) l (omega arith)) ∙ sym (drop-cons l k 0 (omega arith)))

@@ -1,7 +1,7 @@
 -- Each number of a table of checks is given exactly when its check holds and no earlier one does.
-use Prim.Native.Nat.{ℕ, zero, _<_, _≤_}
+use Prim.Native.Nat.{ℕ, _<_, _≤_}
 use mathlib.Core.Path.{_≡_, refl, sym, _∙_}
-use mathlib.Core.Bool.{Bool, true, false, cond, _&&_, and-eq-true-iff}
+use mathlib.Core.Bool.{true, false, cond, and-eq-true-iff}
 use mathlib.Core.List.{List, [], _∷_, _++_}
 use mathlib.Core.Logic.{_↔_}
 use native.Mathlib.Omega.{arith}
@@ -33,7 +33,7 @@ none-below k (c ∷ cs) r n h =
     let a = first-row k c cs r in
     past c cs n (λ e. omega arith) ∙ none-below (c .1) cs (a .1) n (omega arith)
 
-above : (k : ℕ) (cs : List Check) → risesFrom k cs ≡ true → 0 < firstOf cs → k < firstOf cs
+pub above : (k : ℕ) (cs : List Check) → risesFrom k cs ≡ true → 0 < firstOf cs → k < firstOf cs
 above k [] r h = absurd (omega (arith, h))
 above k (c ∷ cs) r h =
     let a = first-row k c cs r in
@@ -128,10 +128,3 @@ unfolding holdsAt
 holds-append [] ds n e = refl
 holds-append (c ∷ cs) ds n e =
     split (eqb (c .1) n) (λ t. simp t (simp t at e)) (λ f. simp f (holds-append cs ds n (simp f at e)))
-
--- the number of a table, from that of its first rows, or of the others
-pub first-early : (cs ds : List Check) → risesFrom 0 cs ≡ true → (n : ℕ) → n ≡ firstOf cs → (n ≡ 0 → ⊥) → n ≡ firstOf (cs ++ ds)
-first-early cs ds r n e z = e ∙ sym (first-append 0 cs ds r ∙ simp (ne-eqb (firstOf cs) 0 (λ q. z (e ∙ q))))
-
-pub first-late : (cs ds : List Check) → risesFrom 0 cs ≡ true → firstOf cs ≡ 0 → (m : ℕ) → m ≡ firstOf ds → m ≡ firstOf (cs ++ ds)
-first-late cs ds r z m e = e ∙ sym (first-append 0 cs ds r ∙ simp z)

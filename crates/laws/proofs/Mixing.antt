@@ -1,5 +1,5 @@
 -- THE MIX: inputs of several owners in any order, against each owner's inputs alone.
-use Prim.Native.Nat.{ℕ, zero, suc, _<_}
+use Prim.Native.Nat.{ℕ, suc, _<_}
 use mathlib.Core.Path.{_≡_, refl, sym, ap, _∙_, subst}
 use mathlib.Core.Logic.{_≢_}
 use mathlib.Core.Bool.{Bool, true, false, cond, true≢false, false≢true}
@@ -7,9 +7,9 @@ use mathlib.Core.Option.{Option, none, some}
 use mathlib.Core.List.{List, [], _∷_, _++_, append-nil}
 use native.Mathlib.Omega.{arith}
 use lib.Dec.{eqb, ltb}
-use borrow.Author.Tests.{eqb-true, eqb-false, eq-eqb, ne-eqb, ltb-true, ltb-false}
+use borrow.Author.Tests.{eqb-true, eq-eqb, ltb-true, ltb-false}
 use Rattle.laws.specs.Mixing.{those, isOf, inputsOf, answersOf, serially, occurrences, run, trace}
-use Rattle.laws.proofs.Tests.{split, clash}
+use Rattle.laws.proofs.Tests.{split}
 
 module _ {X : Type 0} where
   those-append : (p : X → Bool) (xs ys : List X) → those p (xs ++ ys) ≡ those p xs ++ those p ys
@@ -167,3 +167,29 @@ module _ {F S A : Type 0} {next : F → S → S} {answer : F → S → A} {owner
       alone L o before f s g m
       ∙ ap (λ (l : List F). answer f (run next l s)) (sym same)
       ∙ sym (alone L o earlier f s g m)
+
+-- ---- a machine that does the same, and whose answers say what the other's do
+
+module _ {F S A B : Type 0} {next next' : F → S → S} {answer : F → S → A} {answer' : F → S → B} {owner : F → Option ℕ} {Good : S → Type 0}
+    {Same : ℕ → S → S → Type 0} (L : Local next answer owner Good Same) (says : A → B)
+    (does-same : (f : F) (s : S) → Good s → next' f s ≡ next f s) (says-same : (f : F) (s : S) → Good s → answer' f s ≡ says (answer f s)) where
+  pub local-as : Local next' answer' owner Good Same
+  local-as = record {
+    good-next = λ f s g. subst Good (sym (does-same f s g)) (L .good-next f s g);
+    same-refl = L .same-refl;
+    same-sym = L .same-sym;
+    same-trans = L .same-trans;
+    others = λ o f s ne g. subst (λ t. Same o t s) (sym (does-same f s g)) (L .others o f s ne g);
+    own-next = λ o f s t m gs gt e.
+        subst (λ u. Same o u (next' f t)) (sym (does-same f s gs))
+        (subst (λ u. Same o (next f s) u) (sym (does-same f t gt)) (L .own-next o f s t m gs gt e));
+    own-answer = λ o f s t m gs gt e. says-same f s gs ∙ ap says (L .own-answer o f s t m gs gt e) ∙ sym (says-same f t gt);
+    free-answer = λ f s t m gs gt. says-same f s gs ∙ ap says (L .free-answer f s t m gs gt) ∙ sym (says-same f t gt);
+    all-same = L .all-same;
+  }
+
+  pub run-as : (fs : List F) (s : S) → Good s → (run next' fs s ≡ run next fs s) × Good (run next fs s)
+  run-as [] s g = (refl, g)
+  run-as (f ∷ fs) s g =
+      let h = run-as fs (next f s) (L .good-next f s g) in
+      (ap (run next' fs) (does-same f s g) ∙ h .0, h .1)

@@ -2,11 +2,11 @@
 use Prim.Native.Nat.{ℕ, _+_, _-_, _≤_, _<_}
 use mathlib.Core.Path.{_≡_, refl, sym, ap, _∙_}
 use mathlib.Core.Bool.{Bool, true, false}
-use mathlib.Core.List.{List, [], _∷_, _++_, append-assoc}
-use native.Mathlib.Nat.{zero-add}
+use mathlib.Core.List.{List, [], _++_, append-nil, append-assoc}
+use native.Mathlib.Nat.{zero-add, add-zero}
 use native.Mathlib.Omega.{arith}
 use lib.Dec.{ltb}
-use lib.ListN.{length, take, drop, getD, length-append, length-take, length-drop, List·getD-append, drop-of-length-le}
+use lib.ListN.{length, take, drop, getD, length-append, length-take, length-drop, take-append-drop, List·getD-append}
 use lib.Seq.{getD-append-add, getD-take, getD-drop, ext-getD, length-take-le, take-at, drop-drop}
 use borrow.Author.Tests.{ltb-true, ltb-false}
 use Rattle.laws.specs.Put.{put, Agree}
@@ -131,9 +131,9 @@ take-put l at bs n p q =
     (length-append (take at l) bs ∙ ap (λ (x : ℕ). x + length bs) (length-take-le at l p) ∙ q)
 
 -- nothing put in
-pub put-nothing : (l : List ℕ) → put l 0 [] ≡ l
+pub put-nothing : (l : List ℕ) (at : ℕ) → put l at [] ≡ l
 unfolding put
-put-nothing l = refl
+put-nothing l at = rw (append-nil (take at l), add-zero at) (take-append-drop at l)
 
 -- put in front, the rest stays
 pub put-front : (l bs : List ℕ) → put l 0 bs ≡ bs ++ drop (length bs) l

@@ -12,32 +12,32 @@ use Rattle.laws.specs.Bytes.{zeros, padded}
 use Rattle.laws.proofs.Bytes.{are-zeros, getD-past, padded-take, byte-taken, zeros-at}
 use Rattle.laws.proofs.Tests.{split}
 use Rattle.octets.specs.declared.Data.{Data}
-use Rattle.octets.specs.Data.{dataOf, placesOf, bytesOf, tidy}
+use Rattle.octets.specs.Data.{mostData, dataOf, placesOf, bytesOf, tidy}
 
 -- at most six bytes, and the zeros behind them
-places : (l : List ℕ) → length l ≤ 6
-    → getD l 0 0 ∷ getD l 1 0 ∷ getD l 2 0 ∷ getD l 3 0 ∷ getD l 4 0 ∷ getD l 5 0 ∷ [] ≡ padded 6 l
-places [] h = refl
-places (a ∷ []) h = refl
-places (a ∷ b ∷ []) h = refl
-places (a ∷ b ∷ c ∷ []) h = refl
-places (a ∷ b ∷ c ∷ d ∷ []) h = refl
-places (a ∷ b ∷ c ∷ d ∷ e ∷ []) h = refl
-places (a ∷ b ∷ c ∷ d ∷ e ∷ f ∷ []) h = refl
-places (a ∷ b ∷ c ∷ d ∷ e ∷ f ∷ g ∷ l) h = absurd (omega arith)
+six-padded : (l : List ℕ) → length l ≤ mostData
+    → getD l 0 0 ∷ getD l 1 0 ∷ getD l 2 0 ∷ getD l 3 0 ∷ getD l 4 0 ∷ getD l 5 0 ∷ [] ≡ padded mostData l
+six-padded [] h = refl
+six-padded (a ∷ []) h = refl
+six-padded (a ∷ b ∷ []) h = refl
+six-padded (a ∷ b ∷ c ∷ []) h = refl
+six-padded (a ∷ b ∷ c ∷ d ∷ []) h = refl
+six-padded (a ∷ b ∷ c ∷ d ∷ e ∷ []) h = refl
+six-padded (a ∷ b ∷ c ∷ d ∷ e ∷ f ∷ []) h = refl
+six-padded (a ∷ b ∷ c ∷ d ∷ e ∷ f ∷ g ∷ l) h = absurd (omega arith)
 
-module _ (l : List ℕ) (h : length l ≤ 6) where
+module _ (l : List ℕ) (h : length l ≤ mostData) where
   -- the bytes that were put into data are those that it holds
   pub bytes-data : bytesOf (dataOf l) ≡ l
   unfolding dataOf bytesOf
-  bytes-data = ap (take (length l)) (places l h) ∙ take-at l (replicate (6 - length l) 0) (length l) refl
+  bytes-data = ap (take (length l)) (six-padded l h) ∙ take-at l (replicate (mostData - length l) 0) (length l) refl
 
   -- and its other places hold 0
   pub tidy-data : (most : ℕ) → length l ≤ most → tidy most (dataOf l) ≡ true
   unfolding dataOf tidy
   tidy-data most k =
-      let z : zeros (drop (length l) (padded 6 l)) ≡ true = rw (drop-at l (replicate (6 - length l) 0) (length l) refl) (are-zeros (6 - length l)) in
-      simp (le-leb (length l) most k, places l h, z)
+      let z : zeros (drop (length l) (padded mostData l)) ≡ true = rw (drop-at l (replicate (mostData - length l) 0) (length l) refl) (are-zeros (mostData - length l)) in
+      simp (le-leb (length l) most k, six-padded l h, z)
 
 -- tidy data is at most so long, and is also tidy where there is more room
 pub tidy-most : (most : ℕ) (d : Data) → tidy most d ≡ true → d .len ≤ most
@@ -51,7 +51,7 @@ tidy-more most more d h t =
     (and-eq-true-iff (leb (d .len) most) (zeros (drop (d .len) (placesOf d))) .0 t .1)
 
 -- the bytes are as many as their count says, where there are places for them
-pub bytes-counted : (d : Data) → d .len ≤ 6 → length (bytesOf d) ≡ d .len
+pub bytes-counted : (d : Data) → d .len ≤ mostData → length (bytesOf d) ≡ d .len
 unfolding bytesOf
 bytes-counted d h = length-take-le (d .len) (placesOf d) h
 
@@ -60,19 +60,19 @@ pub places-cut : (d : Data) (l : List ℕ) → l ≡ placesOf d → take (d .len
 unfolding bytesOf
 places-cut d l e = let z : d .len - 0 ≡ d .len = omega arith in rw (e, z)
 
-module _ (d : Data) (t : tidy 6 d ≡ true) where
+module _ (d : Data) (t : tidy mostData d ≡ true) where
   pub bytes-length : length (bytesOf d) ≡ d .len
-  bytes-length = bytes-counted d (tidy-most 6 d t)
+  bytes-length = bytes-counted d (tidy-most mostData d t)
 
-  pub bytes-padded : padded 6 (bytesOf d) ≡ placesOf d
+  pub places-padded : padded mostData (bytesOf d) ≡ placesOf d
   unfolding bytesOf tidy
-  bytes-padded =
-      padded-take (d .len) 6 (placesOf d) (tidy-most 6 d t) (omega arith)
-      (and-eq-true-iff (leb (d .len) 6) (zeros (drop (d .len) (placesOf d))) .0 t .1)
+  places-padded =
+      padded-take (d .len) mostData (placesOf d) (tidy-most mostData d t) (omega arith)
+      (and-eq-true-iff (leb (d .len) mostData) (zeros (drop (d .len) (placesOf d))) .0 t .1)
 
   -- a byte of the list is the byte of its place
   pub byte-place : (i : ℕ) → getD (bytesOf d) i 0 ≡ getD (placesOf d) i 0
-  byte-place i = sym (getD-past (bytesOf d) (6 - length (bytesOf d)) i) ∙ ap (λ (l : List ℕ). getD l i 0) bytes-padded
+  byte-place i = sym (getD-past (bytesOf d) (mostData - length (bytesOf d)) i) ∙ ap (λ (l : List ℕ). getD l i 0) places-padded
 
   -- tidy data is made of the bytes that it holds
   pub data-bytes : dataOf (bytesOf d) ≡ d
@@ -97,11 +97,11 @@ data-taken n l h =
 
 -- the front of a list, place by place
 pub data-front : (l : List ℕ)
-    → dataOf (take 6 l)
-    ≡ record { len = min 6 (length l); b0 = getD l 0 0; b1 = getD l 1 0; b2 = getD l 2 0; b3 = getD l 3 0; b4 = getD l 4 0; b5 = getD l 5 0 }
+    → dataOf (take mostData l)
+    ≡ record { len = min mostData (length l); b0 = getD l 0 0; b1 = getD l 1 0; b2 = getD l 2 0; b3 = getD l 3 0; b4 = getD l 4 0; b5 = getD l 5 0 }
 unfolding dataOf
 data-front l =
-    simp (length-take 6 l, getD-take 6 l 0 0 (omega arith), getD-take 6 l 1 0 (omega arith), getD-take 6 l 2 0 (omega arith), getD-take 6 l 3 0 (omega arith), getD-take 6 l 4 0 (omega arith), getD-take 6 l 5 0 (omega arith))
+    simp (length-take mostData l, getD-take mostData l 0 0 (omega arith), getD-take mostData l 1 0 (omega arith), getD-take mostData l 2 0 (omega arith), getD-take mostData l 3 0 (omega arith), getD-take mostData l 4 0 (omega arith), getD-take mostData l 5 0 (omega arith))
 
 -- ---- the places that the bytes leave unused
 

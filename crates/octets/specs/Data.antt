@@ -1,4 +1,4 @@
--- Data: up to six bytes as a value. More do not stand behind the ID of a frame (000, figures 3.13 and 3.14: a DLC of at most 8 counts byte 2 and the ID too).
+-- Data: up to six bytes as a value.
 use Prim.Native.Nat.{ℕ}
 use mathlib.Core.Bool.{Bool, _&&_}
 use mathlib.Core.List.{List, [], _∷_}
@@ -6,6 +6,10 @@ use lib.ListN.{length, take, drop}
 use lib.Dec.{leb}
 use Rattle.laws.specs.Bytes.{byteAt, zeros}
 use Rattle.octets.specs.declared.Data.{Data}
+
+-- "The Data field holds up to 6 bytes." (000, 3.2.2.2.1.2; figure 3.13: a DLC of at most 8 counts byte 2 and the ID too)
+abbrev pub mostData : ℕ
+mostData = 6
 
 -- up to six bytes; the places that they do not use hold 0
 unfoldable pub dataOf : List ℕ → Data

@@ -4,13 +4,13 @@ ghost use mathlib.Core.List.{[], _∷_};
 ghost use Prim.Native.Nat.{min};
 ghost use lib.ListN.{take, drop};
 ghost use Rattle.laws.specs.Bytes.{zeros};
-ghost use Rattle.octets.specs.Data.{dataOf, placesOf, tidy};
+ghost use Rattle.octets.specs.Data.{mostData, dataOf, placesOf, tidy};
 use crate::Data;
 use crate::MOST;
 use crate::places::byte_at;
 
 fn least_of_six(n: usize) -> u8
-    ensures { λ r. ⌜ r ≡ min 6 n ⌝ }
+    ensures { λ r. ⌜ r ≡ min mostData n ⌝ }
 {
     if (MOST as usize) < n { MOST } else { n as u8 }
 }
@@ -31,7 +31,7 @@ pub fn no_data() -> Data
 
 // The bytes of a slice, of which at most six have room.
 pub fn data_from(bytes: &[u8]) -> Data
-    ensures { λ r. ⌜ r ≡ dataOf (take 6 (now (bytes .entry))) ⌝ }
+    ensures { λ r. ⌜ r ≡ dataOf (take mostData (now (bytes .entry))) ⌝ }
 {
     Data {
         len: least_of_six(bytes.len()),

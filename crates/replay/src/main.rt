@@ -3,7 +3,7 @@
 // pipe none waits for those behind it.
 mod line;
 
-const RECORD: usize = 10;
+const RECORD: usize = codec::FRAME_SIZE;
 
 // Waits for the next record and answers it. Where the input ends before it is whole, what there is of it is answered: a record of another length is the
 // device's to refuse. Whether the input may go on.

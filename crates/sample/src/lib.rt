@@ -4,11 +4,9 @@ pub const ADDRESS: u32 = 9;
 
 pub const STORE: usize = 67;
 
-// 32 records of 260 bytes (01, "Object table, store, work area").
-pub const WORK: usize = 8320;
+pub const WORK: usize = join::AREA;
 
-// 64 frames of ten bytes, the most that a step puts (01, check 1).
-pub const OUT: usize = 640;
+pub const OUT: usize = guest::LEAST_OUT;
 
 // Records of eight bytes: object, ID, access, length, offset and descriptor.
 pub const TABLE: [u8; 32] = *b"\

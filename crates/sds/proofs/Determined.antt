@@ -1,6 +1,7 @@
 -- Each entry point's contract leaves one outcome, and asks nothing of a caller.
 use mathlib.Core.Path.{_≡_, sym, _∙_}
 use denote.Ref.{now}
+use Rattle.guest.specs.Step.{areas}
 use Rattle.sds.specs.Border.{stepped}
 use Rattle.sds.proofs.sds_step.Reads as sds-step
 use Rattle.sds.proofs.sds_read.Reads as sds-read
@@ -11,8 +12,8 @@ use Rattle.sds.proofs.sds_table_check.Reads as sds-table-check
 -- ---- determination: two outcomes that meet a function's contract are equal, the number and each lent byte
 
 pub sds-step-determined : (κs : _) (args : _) (r r' : _) (s s' : _) → sds-step.Post κs args r s → sds-step.Post κs args r' s'
-    → stepped r (now (s .1 .1 .1 .0)) (now (s .1 .1 .1 .1 .0)) (now (s .1 .1 .1 .1 .1 .0))
-    ≡ stepped r' (now (s' .1 .1 .1 .0)) (now (s' .1 .1 .1 .1 .0)) (now (s' .1 .1 .1 .1 .1 .0))
+    → stepped r (areas (now (s .1 .1 .1 .0)) (now (s .1 .1 .1 .1 .0))) (now (s .1 .1 .1 .1 .1 .0))
+    ≡ stepped r' (areas (now (s' .1 .1 .1 .0)) (now (s' .1 .1 .1 .1 .0))) (now (s' .1 .1 .1 .1 .1 .0))
 sds-step-determined κs args r r' s s' p q = p ∙ sym q
 
 pub sds-read-determined : (κs : _) (args : _) (r r' : _) (s s' : _) → sds-read.Post κs args r s → sds-read.Post κs args r' s'

@@ -1,30 +1,34 @@
 -- WHAT THE BORDER PROMISES of messages and records, of what is refused, and of both round trips.
 use Prim.Native.Nat.{ℕ, _<_, _≤_}
 use mathlib.Core.Path.{_≡_, refl, _∙_}
-use mathlib.Core.Bool.{true, false, not, _&&_, and-eq-true-iff, or-false}
+use mathlib.Core.Bool.{true, false, not, _&&_, and-eq-true-iff, or-true}
 use mathlib.Mathlib.Data.Bool.Basic.{or-eq-false-eq-eq-false-and-eq-false as neither}
 use mathlib.Core.List.{List, _∷_}
 use mathlib.Core.Logic.{_↔_}
 use native.Mathlib.Omega.{arith}
-use lib.ListN.{length}
-use lib.Dec.{eqb}
+use lib.ListN.{length, drop}
+use lib.Dec.{eqb, ltb}
 use borrow.Author.Tests.{eqb-true, eq-eqb, ne-eqb, le-ltb, not-false}
 use Rattle.laws.specs.Bytes.{Bytes}
 use Rattle.laws.specs.Checks.{Check, firstOf, holdsAt, FirstAt}
 use Rattle.laws.proofs.Tests.{split, clash}
-use Rattle.laws.proofs.Checks.{given-exactly, none-holds}
+use Rattle.laws.proofs.Checks.{above, given-exactly, none-holds}
 use Rattle.octets.specs.Data.{dataOf}
 use Rattle.codec.specs.declared.Answer.{Answer}
 use Rattle.codec.specs.declared.Answer.the-variants.{Got, Refused}
 use Rattle.codec.specs.declared.Message.{Message}
 use Rattle.codec.specs.declared.Message.the-variants.{Short, Plain, Fragment}
+use Rattle.codec.specs.Names.{frameSize, mostAddress}
 use Rattle.codec.specs.Fields.{headerOf}
 use Rattle.codec.specs.Reading.{headerChecks, readChecks, messageOf, readOf, numberOf}
 use Rattle.codec.specs.Writing.{carried, imageOf, clearedOf}
 use Rattle.codec.proofs.Trips.{written-read, read-written, read-is-carried}
 use Rattle.codec.proofs.Promises as codec
-use Rattle.guest.specs.Checks.{setting}
-use Rattle.judge.specs.Code.{callChecks}
+use Rattle.table.specs.Table.{lengthsFit, wellFormed}
+use Rattle.join.specs.Work.{areaSize}
+use Rattle.guest.specs.Checks.{leastOut, checks}
+use Rattle.guest.specs.Step.{Call, settingOf, outcomeOf, stepOf}
+use Rattle.guest.proofs.Numbers.{number-is}
 use Rattle.sds.specs.Border.{messageSize, longBytes, messageBytes, subjectAt, dataAt, messageAt, bordered, missized, answeredIn, borderReadNumber, borderRead, borderWriteChecks, borderWriteNumber, borderWrite, tableChecks}
 use Rattle.sds.proofs.Places.{bordered-back}
 
@@ -150,7 +154,46 @@ refused-is-unread l s e r m g i =
     let f : not (bordered l && carried (messageAt l)) ≡ false = simp (b, k, read-is-carried r m g) in
     clash h f
 
--- ---- a table and a store get from `sds_table_check` what they get from a step whose other buffers fit
-pub table-as-step : (own : ℕ) (t : List ℕ) (size : ℕ) (r : List ℕ) → own ≤ 125 → length r ≡ 10
-    → firstOf (callChecks (setting own t size 8320 640) r) ≡ firstOf (tableChecks t size)
-table-as-step own t size r h n = simp (n, le-ltb 125 own h, or-false)
+-- ---- a table and a store get from `sds_table_check` the 1 or 2 that they get from a step whose other buffers have accepted sizes
+
+module _ (c : Call) (ten : length (c .frame) ≡ frameSize) (own : c .own ≤ mostAddress) (work : length (c .given .work) ≡ areaSize)
+    (out : leastOut ≤ length (c .out)) where
+  roomy : ltb (length (c .out)) leastOut ≡ false
+  roomy = le-ltb (length (c .out)) leastOut out
+
+  addressed : ltb mostAddress (c .own) ≡ false
+  addressed = le-ltb mostAddress (c .own) own
+
+  later : List Check
+  later = drop 2 (checks (settingOf c) (c .frame) (c .given .work))
+
+  abbrev size : ℕ
+  size = length (c .given .store)
+
+  -- past checks 1 and 2 a step's number is above 2
+  past-both : lengthsFit (length (c .table)) size ≡ true → wellFormed (c .table) size ≡ true → firstOf (checks (settingOf c) (c .frame) (c .given .work)) ≡ firstOf later
+  unfolding later
+  past-both l w = simp (ten, work, roomy, addressed, l, w)
+
+  unfit : lengthsFit (length (c .table)) size ≡ false → firstOf (checks (settingOf c) (c .frame) (c .given .work)) ≡ 1
+  unfit l = simp (l, or-true)
+
+  late : 0 < firstOf later → 2 < firstOf later
+  unfolding later
+  late = above 2 later refl
+
+  pub table-as-step : (n : ℕ) → 0 < n → n ≤ 2 → (stepOf c .number ≡ n) ↔ (firstOf (tableChecks (c .table) size) ≡ n)
+  unfolding stepOf outcomeOf
+  table-as-step n least most =
+      rw (number-is (settingOf c) (c .frame) (c .given))
+      (split (lengthsFit (length (c .table)) size)
+      (λ l. split (wellFormed (c .table) size)
+      (λ w.
+      let none : firstOf (tableChecks (c .table) size) ≡ 0 = simp (l, w) in
+      let first = past-both l w in
+      (λ e. absurd (omega (arith, late (omega arith))), λ e. absurd (omega arith)))
+      (λ w. simp (ten, work, roomy, addressed, l, w) (λ e. e, λ e. e)))
+      (λ l.
+      let one : firstOf (tableChecks (c .table) size) ≡ 1 = simp l in
+      let first = unfit l in
+      (λ e. omega arith, λ e. omega arith)))

@@ -1,6 +1,7 @@
 -- What C sees: a message as 16 bytes, and what each entry point answers.
-use Prim.Native.Nat.{ℕ, _+_, _*_, _%_}
-use mathlib.Core.Bool.{Bool, true, false, cond, not, _&&_, _||_}
+use Prim.Native.Nat.{ℕ, _+_, _*_}
+use mathlib.Core.Path.{_≡_}
+use mathlib.Core.Bool.{Bool, cond, not, _&&_, _||_}
 use mathlib.Core.List.{List, [], _∷_}
 use lib.ListN.{length, drop}
 use lib.Dec.{eqb, ltb}
@@ -8,16 +9,19 @@ use Rattle.laws.specs.Bytes.{byteAt, zeros}
 use Rattle.laws.specs.Checks.{Check, firstOf}
 use Rattle.octets.specs.declared.Data.{Data}
 use Rattle.octets.specs.Data.{dataOf, placesOf}
+use Rattle.codec.specs.declared.Header.{Header}
 use Rattle.codec.specs.declared.Subject.{Subject}
 use Rattle.codec.specs.declared.Message.{Message}
 use Rattle.codec.specs.declared.Message.the-variants.{Short, Plain, Fragment}
 use Rattle.codec.specs.declared.Answer.{Answer}
 use Rattle.codec.specs.declared.Answer.the-variants.{Got, Refused}
-use Rattle.codec.specs.Reading.{readOf, numberOf}
+use Rattle.codec.specs.Names.{frameSize}
+use Rattle.codec.specs.Fields.{headerOf}
+use Rattle.codec.specs.Reading.{readChecks, readOf, numberOf}
 use Rattle.codec.specs.Writing.{carried, imageOf}
 use Rattle.table.specs.Descriptor.{descriptorSize}
-use Rattle.table.specs.Table.{entrySize, wellFormed}
-use Rattle.guest.specs.Step.{Outcome}
+use Rattle.table.specs.Table.{lengthsFit, wellFormed}
+use Rattle.guest.specs.Step.{Areas, Outcome}
 
 -- "a message at this border is 16 bytes"
 abbrev pub messageSize : ℕ
@@ -87,9 +91,15 @@ answeredIn (Refused n) l = l
 unfoldable pub borderRead : List ℕ → List ℕ → List ℕ
 borderRead r l = cond (eqb (length l) messageSize) (answeredIn (readOf r) l) l
 
+-- a record that is read, with its header, in long form: what the code knows when it puts such a message
+pub record Long (r : List ℕ) (h : Header) : Type 0 where
+  pub unrefused : firstOf (readChecks r) ≡ 0
+  pub header : h ≡ headerOf r
+  pub long : h .dlc ≡ 0 → ⊥
+
 -- "a message buffer of another length is refused with 1, like a record's"
 abbrev pub missized : List ℕ → List ℕ → Bool
-missized l r = not (eqb (length l) messageSize) || not (eqb (length r) 10)
+missized l r = not (eqb (length l) messageSize) || not (eqb (length r) frameSize)
 
 -- the refusals of writing: a length, then a message that no readable frame carries
 abbrev pub borderWriteChecks : List ℕ → List ℕ → List Check
@@ -106,23 +116,18 @@ borderWrite l r = cond (eqb (borderWriteNumber l r) 0) (imageOf (messageAt l)) r
 unfoldable pub borderSize : ℕ → ℕ
 borderSize d = cond (ltb 65535 d) 0 (descriptorSize d)
 
--- 01's check 1, as far as it concerns table and store
-abbrev pub unfit : List ℕ → ℕ → Bool
-unfit t size = not (eqb (length t % entrySize) 0) || ltb 8192 (length t) || ltb 32768 size
-
--- then check 2
+-- 01's check 1, as far as it concerns table and store, and then check 2
 abbrev pub tableChecks : List ℕ → ℕ → List Check
-tableChecks t size = (unfit t size, 1) ∷ (not (wellFormed t size), 2) ∷ []
+tableChecks t size = (not (lengthsFit (length t) size), 1) ∷ (not (wellFormed t size), 2) ∷ []
 
--- one frame: "number + 256 * count", and what the lent areas hold
+-- one frame: "number + 256 * count", and what is there afterwards
 pub record Stepped : Type 0 where
   pub reply : ℕ
-  pub store : List ℕ
-  pub work : List ℕ
-  pub output : List ℕ
+  pub left : Areas
+  pub out : List ℕ
 
-abbrev pub stepped : ℕ → List ℕ → List ℕ → List ℕ → Stepped
-stepped reply store work output = record { reply = reply; store = store; work = work; output = output }
+abbrev pub stepped : ℕ → Areas → List ℕ → Stepped
+stepped reply left out = record { reply = reply; left = left; out = out }
 
 abbrev pub borderStep : Outcome → Stepped
-borderStep o = stepped (o .number + 256 * o .count) (o .store) (o .work) (o .output)
+borderStep o = stepped (o .number + 256 * o .count) (o .left) (o .out)

@@ -5,12 +5,11 @@ mod messages;
 ghost use mathlib.Core.Path.{_≡_};
 ghost use Rattle.laws.specs.Checks.{firstOf};
 ghost use Rattle.sds.specs.Border.{borderReadNumber, borderRead, borderWriteNumber, borderWrite, borderSize, tableChecks, stepped, borderStep};
-ghost use Rattle.guest.specs.Step.{stepOf};
+ghost use Rattle.guest.specs.Step.{areas, call, stepOf};
 use messages::MESSAGE;
 use messages::bordered;
 use messages::message_at;
-use messages::put_places;
-use messages::short_subject;
+use messages::put_message;
 
 // One frame: what the device answers, number + 256 * count. Its frames stand at the front of the output.
 #[no_mangle]
@@ -22,8 +21,8 @@ pub extern "C" fn sds_step(
     work: &mut [u8],
     out: &mut [u8],
 ) -> u32
-    ensures { λ r. ⌜ stepped r (now (store .exit)) (now (work .exit)) (now (out .exit))
-        ≡ borderStep (stepOf (now (frame .entry)) own (now (table .entry)) (now (store .entry)) (now (work .entry)) (now (out .entry))) ⌝ }
+    ensures { λ r. ⌜ stepped r (areas (now (store .exit)) (now (work .exit))) (now (out .exit))
+        ≡ borderStep (stepOf (call (now (frame .entry)) own (now (table .entry)) (areas (now (store .entry)) (now (work .entry))) (now (out .entry)))) ⌝ }
 {
     let reply = device::step(frame, own, table, store, work, out);
     (reply.number as u32) + 256 * (reply.count as u32)
@@ -41,24 +40,7 @@ pub extern "C" fn sds_read(frame: &[u8], message: &mut [u8]) -> u32
     if n != 0 {
         return n as u32;
     }
-    let h = codec::header_of(frame);
-    if h.dlc == 0 {
-        put_places(0, short_subject(h), 0, 0, octets::data_from(b""), message);
-        return 0;
-    }
-    let p = codec::payload_of(frame);
-    if h.flag != 1 {
-        put_places(1, codec::subject_of(h), 0, 0, p, message);
-        return 0;
-    }
-    put_places(
-        2,
-        codec::subject_of(h),
-        p.b0,
-        p.b1,
-        codec::unprefixed(p),
-        message,
-    );
+    put_message(frame, message);
     0
 }
 
@@ -70,7 +52,7 @@ pub extern "C" fn sds_write(message: &[u8], frame: &mut [u8]) -> u32
     if message.len() != MESSAGE {
         return 1;
     }
-    if frame.len() != 10 {
+    if frame.len() != codec::FRAME_SIZE {
         return 1;
     }
     if !bordered(message) {
@@ -95,13 +77,7 @@ pub extern "C" fn sds_descriptor_size(descriptor: u32) -> u32
 pub extern "C" fn sds_table_check(table: &[u8], store_len: u64) -> u32
     ensures { λ r. ⌜ r ≡ firstOf (tableChecks (now (table .entry)) «store_len») ⌝ }
 {
-    if table.len() % 8 != 0 {
-        return 1;
-    }
-    if 8192 < table.len() {
-        return 1;
-    }
-    if 32768 < store_len {
+    if !table::lengths_fit(table.len(), store_len as usize) {
         return 1;
     }
     if table::well_formed(&table[..], store_len as usize) {

@@ -4,7 +4,9 @@ ghost use mathlib.Core.Bool.{cond, _&&_};
 ghost use lib.Dec.{eqb};
 ghost use lib.ListN.{length, drop};
 ghost use Rattle.laws.specs.Bytes.{byteAt, zeros};
-ghost use Rattle.sds.specs.Border.{longBytes, shortSubject, subjectAt, dataAt, messageAt, bordered as Border·bordered};
+ghost use Rattle.laws.specs.Checks.{firstOf};
+ghost use Rattle.codec.specs.Reading.{readChecks, messageOf};
+ghost use Rattle.sds.specs.Border.{messageSize, messageBytes, Long, longBytes, shortSubject, subjectAt, dataAt, messageAt, bordered as Border·bordered};
 use codec::Header;
 use codec::Message;
 use codec::Subject;
@@ -15,8 +17,8 @@ use octets::byte_at;
 pub(crate) const MESSAGE: usize = 16;
 
 // Puts the 16 bytes of a message, place by place. A buffer of another length stays.
-pub(crate) fn put_places(kind: u8, u: Subject, number: u8, total: u8, b: Data, message: &mut [u8])
-    ensures { λ _. ⌜ now (message .exit) ≡ cond (eqb (length (now (message .entry))) 16) (longBytes kind u number total b) (now (message .entry)) ⌝ }
+fn put_places(kind: u8, u: Subject, number: u8, total: u8, b: Data, message: &mut [u8])
+    ensures { λ _. ⌜ now (message .exit) ≡ cond (eqb (length (now (message .entry))) messageSize) (longBytes kind u number total b) (now (message .entry)) ⌝ }
 {
     if message.len() != MESSAGE {
         return;
@@ -40,7 +42,7 @@ pub(crate) fn put_places(kind: u8, u: Subject, number: u8, total: u8, b: Data, m
 }
 
 // The subject of a short message, which has no response, object and ID.
-pub(crate) fn short_subject(h: Header) -> Subject
+fn short_subject(h: Header) -> Subject
     ensures { λ r. ⌜ r ≡ shortSubject (h .dir) (h .address) (h .service) ⌝ }
 {
     Subject {
@@ -51,6 +53,39 @@ pub(crate) fn short_subject(h: Header) -> Subject
         object: 0,
         id: 0,
     }
+}
+
+// Puts the message of a record in long form that is read.
+fn put_long_message(frame: &[u8], h: Header, message: &mut [u8])
+    requires { ⌜ Long (now frame) h × (length (now message) ≡ messageSize) ⌝ }
+    ensures { λ _. ⌜ now (message .exit) ≡ messageBytes (messageOf (now (frame .entry))) ⌝ }
+{
+    let p = codec::payload_of(frame);
+    if h.flag != 1 {
+        put_places(1, codec::subject_of(h), 0, 0, p, message);
+        return;
+    }
+    put_places(
+        2,
+        codec::subject_of(h),
+        p.b0,
+        p.b1,
+        codec::unprefixed(p),
+        message,
+    );
+}
+
+// Puts the message of a record that is read.
+pub(crate) fn put_message(frame: &[u8], message: &mut [u8])
+    requires { ⌜ (firstOf (readChecks (now frame)) ≡ 0) × (length (now message) ≡ messageSize) ⌝ }
+    ensures { λ _. ⌜ now (message .exit) ≡ messageBytes (messageOf (now (frame .entry))) ⌝ }
+{
+    let h = codec::header_of(frame);
+    if h.dlc == 0 {
+        put_places(0, short_subject(h), 0, 0, octets::no_data(), message);
+        return;
+    }
+    put_long_message(frame, h, message);
 }
 
 fn subject_at(message: &[u8]) -> Subject

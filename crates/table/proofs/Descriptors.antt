@@ -1,10 +1,12 @@
--- Descriptor sizes against 001's own table and examples, computed; and a law of the size bits.
-use Prim.Native.Nat.{ℕ, zero, suc, _<_}
+-- Descriptor sizes against 001's own table and examples, computed; and laws of the size bits.
+use Prim.Native.Nat.{ℕ, zero, suc, _≤_, _<_}
 use mathlib.Core.Path.{_≡_, refl}
-use mathlib.Core.List.{List, [], _∷_, _++_, map}
+use mathlib.Core.List.{[], _∷_, _++_, map}
 use native.Mathlib.Omega.{arith}
 use lib.ListN.{replicate}
+use lib.Dec.{eqb}
 use Rattle.laws.specs.Bytes.{upFrom}
+use Rattle.laws.proofs.Checks.{first-most}
 use Rattle.table.specs.Descriptor.{sizeBytes, sizeBy, descriptorSize}
 
 -- 001, 5.2: a Boolean of undefined size, for N from 1 to 32: 1 byte up to 8 points, 2 up to 16, 4 up to 32
@@ -29,3 +31,7 @@ size-small zero h = refl
 size-small (suc zero) h = refl
 size-small (suc (suc zero)) h = refl
 size-small (suc (suc (suc s))) h = absurd (omega arith)
+
+-- and no size names more than four
+pub size-bytes-most : (s : ℕ) → sizeBytes s ≤ 4
+size-bytes-most s = first-most 4 ((eqb s 1, 1) ∷ (eqb s 2, 2) ∷ (eqb s 3, 4) ∷ []) refl

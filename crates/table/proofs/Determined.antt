@@ -2,17 +2,20 @@
 use mathlib.Core.Path.{_≡_, sym, _∙_}
 use denote.Ref.{now}
 use Rattle.table.proofs.descriptor.descriptor_size.Reads as descriptor-size
+use Rattle.table.proofs.sizes.lengths_fit.Reads as lengths-fit
 use Rattle.table.proofs.entries.well_formed.Reads as well-formed
 use Rattle.table.proofs.entries.may_read.Reads as may-read
 use Rattle.table.proofs.entries.may_write.Reads as may-write
 use Rattle.table.proofs.finding.find.Reads as find
 use Rattle.table.proofs.finding.part.Reads as part
-use Rattle.table.proofs.finding.lookup.Reads as lookup
 
 -- ---- determination: two outcomes that meet a function's contract are equal. Of a part of the store, its bytes
 
 pub descriptor-size-determined : (κs : _) (args : _) (r r' : _) (s s' : _) → descriptor-size.Post κs args r s → descriptor-size.Post κs args r' s' → r ≡ r'
 descriptor-size-determined κs args r r' s s' p q = p ∙ sym q
+
+pub lengths-fit-determined : (κs : _) (args : _) (r r' : _) (s s' : _) → lengths-fit.Post κs args r s → lengths-fit.Post κs args r' s' → r ≡ r'
+lengths-fit-determined κs args r r' s s' p q = p ∙ sym q
 
 pub well-formed-determined : (κs : _) (args : _) (r r' : _) (s s' : _) → well-formed.Post κs args r s → well-formed.Post κs args r' s' → r ≡ r'
 well-formed-determined κs args r r' s s' p q = p ∙ sym q
@@ -29,13 +32,13 @@ find-determined κs args r r' s s' p q = p ∙ sym q
 pub part-determined : (κs : _) (args : _) (r r' : _) (s s' : _) → part.Post κs args r s → part.Post κs args r' s' → now r ≡ now r'
 part-determined κs args r r' s s' p q = p ∙ sym q
 
-pub lookup-determined : (κs : _) (args : _) (r r' : _) (s s' : _) → lookup.Post κs args r s → lookup.Post κs args r' s' → now r ≡ now r'
-lookup-determined κs args r r' s s' p q = p ∙ sym q
-
 -- ---- nothing is asked of a caller
 
 pub descriptor-size-asks-nothing : (κs : _) (args : _) → descriptor-size.Asked κs args
 descriptor-size-asks-nothing κs args = tt
+
+pub lengths-fit-asks-nothing : (κs : _) (args : _) → lengths-fit.Asked κs args
+lengths-fit-asks-nothing κs args = tt
 
 pub well-formed-asks-nothing : (κs : _) (args : _) → well-formed.Asked κs args
 well-formed-asks-nothing κs args = tt
@@ -51,6 +54,3 @@ find-asks-nothing κs args = tt
 
 pub part-asks-nothing : (κs : _) (args : _) → part.Asked κs args
 part-asks-nothing κs args = tt
-
-pub lookup-asks-nothing : (κs : _) (args : _) → lookup.Asked κs args
-lookup-asks-nothing κs args = tt

@@ -1,19 +1,26 @@
--- A well-formed table: in words, and what a lookup in it finds.
-use Prim.Native.Nat.{ℕ, zero, suc, _+_, _*_, _≤_, _<_}
-use mathlib.Core.Path.{_≡_, refl, sym, ap, subst, _∙_}
-use mathlib.Core.Bool.{Bool, true, false, cond, _&&_, and-eq-true-iff}
+-- Lengths that fit and a well-formed table, in words; and what a search in a well-formed table finds.
+use Prim.Native.Nat.{ℕ, zero, suc, _+_, _*_, _%_, _≤_, _<_}
+use mathlib.Core.Path.{_≡_, refl, subst}
+use mathlib.Core.Bool.{Bool, true}
 use mathlib.Core.List.{List, [], _∷_}
 use mathlib.Core.Logic.{_↔_}
 use native.Mathlib.Omega.{arith}
 use lib.ListN.{length, getD, take, drop, length-take, length-drop}
-use lib.Dec.{eqb, leb, ltb}
-use borrow.Author.Tests.{leb-true, eqb-true, eqb-false, ltb-true, lt-ltb, le-ltb, le-leb, eq-eqb}
+use borrow.Author.Tests.{leb-true, eqb-true, lt-ltb, le-ltb, le-leb, eq-eqb}
 use Rattle.laws.proofs.Tests.{split, halves}
 use Rattle.table.specs.declared.Attribute.{Attribute}
-use Rattle.table.specs.declared.Found.{Found}
-use Rattle.table.specs.declared.Found.the-variants.{At, Nothing}
-use Rattle.table.specs.Descriptor.{descriptorSize}
-use Rattle.table.specs.Table.{attributes, network, entryFits, pairOf, endOf, wellFrom, wellFormed, WellFormed, findIn, find, partOf, ownerIn}
+use Rattle.table.specs.declared.Found.the-variants.{At}
+use Rattle.table.specs.Table.{entrySize, mostEntries, mostStore, lengthsFit, LengthsFit, attributes, described, entryFits, pairOf, endOf, wellFrom, wellFormed, Ordered, WellFormed, firstIn, named, find, searched, partOf, ownerIn}
+
+-- lengths that fit, in words
+pub lengths-fit-in-words : (table size : ℕ) → (lengthsFit table size ≡ true) ↔ LengthsFit table size
+unfolding lengthsFit
+lengths-fit-in-words table size = (
+  λ e. let p = halves _ e in
+      let q = halves _ (p .0) in
+      record { whole = eqb-true _ _ (q .0); most = leb-true _ _ (q .1); store = leb-true _ _ (p .1) },
+  λ w. simp (eq-eqb (table % entrySize) 0 (w .whole), le-leb table (mostEntries * entrySize) (w .most), le-leb size mostStore (w .store)),
+)
 
 -- a record of the table by itself, in words
 pub record EntryFits (a : Attribute) : Type 0 where
@@ -21,7 +28,7 @@ pub record EntryFits (a : Attribute) : Type 0 where
   pub access : a .access ≤ 7
   pub some : 1 ≤ a .len
   pub short : a .len ≤ 255
-  pub described : cond (network a) (eqb (a .len) (descriptorSize (a .descriptor))) (eqb (a .descriptor) 0) ≡ true
+  pub described : described a ≡ true
 
 pub entry-fits : (a : Attribute) → entryFits a ≡ true → EntryFits a
 unfolding entryFits
@@ -39,96 +46,118 @@ entry-fits a e =
     }
 
 -- the first record of a table that is well formed from a place on, and the rest
-record Row (least at : ℕ) (a : Attribute) (es : List Attribute) (size : ℕ) : Type 0 where
+record Row (least end : ℕ) (a : Attribute) (es : List Attribute) (size : ℕ) : Type 0 where
   fits : entryFits a ≡ true
   pair : least ≤ pairOf a
-  offset : a .offset ≡ at
+  offset : a .offset ≡ end
   rest : wellFrom (pairOf a + 1) (endOf a) es size ≡ true
 
-row : (least at : ℕ) (a : Attribute) (es : List Attribute) (size : ℕ) → wellFrom least at (a ∷ es) size ≡ true → Row least at a es size
+row : (least end : ℕ) (a : Attribute) (es : List Attribute) (size : ℕ) → wellFrom least end (a ∷ es) size ≡ true → Row least end a es size
 unfolding wellFrom
-row least at a es size e =
+row least end a es size e =
     let p = halves _ e in
     let q = halves _ (p .0) in
     let r = halves _ (q .0) in
     record { fits = r .0; pair = leb-true _ _ (r .1); offset = eqb-true _ _ (q .1); rest = p .1 }
 
-ends : (least at : ℕ) (es : List Attribute) (size : ℕ) → wellFrom least at es size ≡ true → at ≤ size
+-- such a table begins no later than the store ends
+ends : (least end : ℕ) (es : List Attribute) (size : ℕ) → wellFrom least end es size ≡ true → end ≤ size
 unfolding wellFrom
-ends least at [] size e = leb-true at size e
-ends least at (a ∷ es) size e =
-    let p = row least at a es size e in
+ends least end [] size e = leb-true end size e
+ends least end (a ∷ es) size e =
+    let p = row least end a es size e in
     let h : endOf a ≤ size = ends (pairOf a + 1) (endOf a) es size (p .rest) in
     omega (arith, p .offset)
 
--- what is known of a record that a lookup finds: it bears the name, its part stands in the store, and its bytes are its object's
-pub record Placed (at : ℕ) (es : List Attribute) (size object id : ℕ) (a : Attribute) : Type 0 where
-  pub its-object : a .object ≡ object
-  pub its-id : a .id ≡ id
+-- ---- the first record that a test takes
+
+pub found-passes : (test : Attribute → Bool) (es : List Attribute) (a : Attribute) → firstIn test es ≡ At a → test a ≡ true
+unfolding firstIn
+found-passes test [] a e = let z : _≡_ {A = ℕ} 0 1 = cc in absurd (omega arith)
+found-passes test (x ∷ es) a e =
+    split (test x)
+    (λ t. let q : x ≡ a = let y : At x ≡ At a = simp t at e in cc in rw (← q) t)
+    (λ f. found-passes test es a (simp f at e))
+
+-- in a well-formed table it fits by itself, its part stands in the store, and the bytes there are its object's
+pub record Placed (es : List Attribute) (size : ℕ) (a : Attribute) : Type 0 where
   pub fits : EntryFits a
-  pub from : at ≤ a .offset
   pub inside : endOf a ≤ size
   pub its : (i : ℕ) → a .offset ≤ i → i < endOf a → ownerIn es i ≡ a .object
 
-placed-in : (least at : ℕ) (es : List Attribute) (size object id : ℕ) (a : Attribute) → wellFrom least at es size ≡ true
-    → findIn object id es ≡ At a → Placed at es size object id a
-unfolding findIn ownerIn
-placed-in least at [] size object id a w e = let z : _≡_ {A = ℕ} 0 1 = cc in absurd (omega arith)
-placed-in least at (x ∷ es) size object id a w e =
-    let p = row least at x es size w in
-    split (eqb (x .object) object && eqb (x .id) id)
+-- from a place on: it stands there or behind
+placed-from : (test : Attribute → Bool) (least end : ℕ) (es : List Attribute) (size : ℕ) (a : Attribute) → wellFrom least end es size ≡ true
+    → firstIn test es ≡ At a → (end ≤ a .offset) × Placed es size a
+unfolding firstIn ownerIn
+placed-from test least end [] size a w e = let z : _≡_ {A = ℕ} 0 1 = cc in absurd (omega arith)
+placed-from test least end (x ∷ es) size a w e =
+    let p = row least end x es size w in
+    split (test x)
     (λ t.
     let q : x ≡ a = let y : At x ≡ At a = simp t at e in cc in
-    let n = halves _ t in
-    subst (Placed at (x ∷ es) size object id) q
-    (record {
-      its-object = eqb-true _ _ (n .0);
-      its-id = eqb-true _ _ (n .1);
-      fits = entry-fits x (p .fits);
-      from = omega (arith, p .offset);
-      inside = ends (pairOf x + 1) (endOf x) es size (p .rest);
-      its = λ i l h. simp (lt-ltb i (endOf x) h);
-    }))
+    subst (λ (b : Attribute). (end ≤ b .offset) × Placed (x ∷ es) size b) q (
+      omega (arith, p .offset),
+      record {
+        fits = entry-fits x (p .fits);
+        inside = ends (pairOf x + 1) (endOf x) es size (p .rest);
+        its = λ i l h. simp (lt-ltb i (endOf x) h);
+      },
+    ))
     (λ f.
-    let h = placed-in (pairOf x + 1) (endOf x) es size object id a (p .rest) (simp f at e) in
-    record {
-      its-object = h .its-object;
-      its-id = h .its-id;
-      fits = h .fits;
-      from = omega (arith, h .from, p .offset);
-      inside = h .inside;
-      its = λ i l k. simp (le-ltb i (endOf x) (omega (arith, h .from))) (h .its i l k);
-    })
+    let h = placed-from test (pairOf x + 1) (endOf x) es size a (p .rest) (simp f at e) in (
+      omega (arith, h .0, p .offset),
+      record {
+        fits = h .1 .fits;
+        inside = h .1 .inside;
+        its = λ i l k. simp (le-ltb i (endOf x) (omega (arith, h .0))) (h .1 .its i l k);
+      },
+    ))
 
-pub placed : (t : List ℕ) (size object id : ℕ) (a : Attribute) → wellFormed t size ≡ true → find t object id ≡ At a
-    → Placed 0 (attributes t) size object id a
-unfolding wellFormed find
-placed t size object id a w e = placed-in 0 0 (attributes t) size object id a w e
+pub placed : (test : Attribute → Bool) (t : List ℕ) (size : ℕ) (a : Attribute) → wellFormed t size ≡ true → firstIn test (attributes t) ≡ At a
+    → Placed (attributes t) size a
+unfolding wellFormed
+placed test t size a w e = placed-from test 0 0 (attributes t) size a w e .1
+
+-- the record of (object, ID)
+pub found-placed : (t : List ℕ) (size object id : ℕ) (a : Attribute) → wellFormed t size ≡ true → find t object id ≡ At a
+    → Placed (attributes t) size a
+unfolding find
+found-placed t size object id a w e = placed (named object id) t size a w e
+
+pub found-named : (t : List ℕ) (object id : ℕ) (a : Attribute) → find t object id ≡ At a → (a .object ≡ object) × (a .id ≡ id)
+unfolding find
+found-named t object id a e =
+    let n = halves _ (found-passes (named object id) (attributes t) a e) in
+    (eqb-true _ _ (n .0), eqb-true _ _ (n .1))
+
+-- in an ordered table the code's search gives that record
+pub search-finds : (t : List ℕ) (object id : ℕ) → Ordered t → searched t object id ≡ find t object id
+search-finds t object id o = refl
 
 -- ---- well-formedness in words
 
--- the same, from a least pair and an offset on
-record InWords (least at : ℕ) (es : List Attribute) (size : ℕ) (d : Attribute) : Type 0 where
+-- the same, from a least pair and an end on
+record InWords (least end : ℕ) (es : List Attribute) (size : ℕ) (d : Attribute) : Type 0 where
   fits : (i : ℕ) → i < length es → entryFits (getD es i d) ≡ true
   rises : (i : ℕ) → suc i < length es → pairOf (getD es i d) < pairOf (getD es (suc i) d)
   next : (i : ℕ) → suc i < length es → getD es (suc i) d .offset ≡ endOf (getD es i d)
   last : (i : ℕ) → suc i ≡ length es → endOf (getD es i d) ≤ size
   low : 0 < length es → least ≤ pairOf (getD es 0 d)
-  begins : 0 < length es → getD es 0 d .offset ≡ at
-  none : length es ≡ 0 → at ≤ size
+  begins : 0 < length es → getD es 0 d .offset ≡ end
+  none : length es ≡ 0 → end ≤ size
 
-to-words : (least at : ℕ) (es : List Attribute) (size : ℕ) (d : Attribute) → wellFrom least at es size ≡ true → InWords least at es size d
-to-words least at [] size d e = record {
+to-words : (least end : ℕ) (es : List Attribute) (size : ℕ) (d : Attribute) → wellFrom least end es size ≡ true → InWords least end es size d
+to-words least end [] size d e = record {
   fits = λ i h. absurd (omega arith);
   rises = λ i h. absurd (omega arith);
   next = λ i h. absurd (omega arith);
   last = λ i h. absurd (omega arith);
   low = λ h. absurd (omega arith);
   begins = λ h. absurd (omega arith);
-  none = λ h. ends least at [] size e;
+  none = λ h. ends least end [] size e;
 }
-to-words least at (a ∷ es) size d e =
-    let p = row least at a es size e in
+to-words least end (a ∷ es) size d e =
+    let p = row least end a es size e in
     let w = to-words (pairOf a + 1) (endOf a) es size d (p .rest) in
     record {
       fits = elim [ zero ↦ λ h. p .fits | suc i ↦ λ h. w .fits i (omega arith) ];
@@ -140,10 +169,10 @@ to-words least at (a ∷ es) size d e =
       none = λ h. absurd (omega arith);
     }
 
-of-words : (least at : ℕ) (es : List Attribute) (size : ℕ) (d : Attribute) → InWords least at es size d → wellFrom least at es size ≡ true
+of-words : (least end : ℕ) (es : List Attribute) (size : ℕ) (d : Attribute) → InWords least end es size d → wellFrom least end es size ≡ true
 unfolding wellFrom
-of-words least at [] size d w = le-leb at size (w .none refl)
-of-words least at (a ∷ es) size d w =
+of-words least end [] size d w = le-leb end size (w .none refl)
+of-words least end (a ∷ es) size d w =
     let rest = of-words (pairOf a + 1) (endOf a) es size d
     (record {
       fits = λ i h. w .fits (suc i) (omega arith);
@@ -154,7 +183,7 @@ of-words least at (a ∷ es) size d w =
       begins = λ h. w .next 0 (omega arith);
       none = λ h. w .last 0 (omega arith);
     }) in
-    simp (w .fits 0 (omega arith), le-leb least (pairOf a) (w .low (omega arith)), eq-eqb (a .offset) at (w .begins (omega arith)), rest)
+    simp (w .fits 0 (omega arith), le-leb least (pairOf a) (w .low (omega arith)), eq-eqb (a .offset) end (w .begins (omega arith)), rest)
 
 pub well-formed-in-words : (t : List ℕ) (size : ℕ) (d : Attribute) → (wellFormed t size ≡ true) ↔ WellFormed (attributes t) size d
 unfolding wellFormed

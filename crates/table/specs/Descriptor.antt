@@ -1,7 +1,7 @@
 -- The size of what a data descriptor describes, in bytes; 0 where the descriptor is refused (01, "Descriptor sizes"; 001, section 5).
 use Prim.Native.Nat.{ℕ, _+_, _*_}
 use mathlib.Core.Bool.{Bool, cond, _&&_}
-use mathlib.Core.List.{List, [], _∷_}
+use mathlib.Core.List.{[], _∷_}
 use lib.Dec.{eqb, leb}
 use Rattle.laws.specs.Bytes.{bits}
 use Rattle.laws.specs.Checks.{firstOf}
@@ -36,9 +36,9 @@ typeOf d = bits 11 8 d
 abbrev pub sizeBytes : ℕ → ℕ
 sizeBytes s = firstOf ((eqb s 1, 1) ∷ (eqb s 2, 2) ∷ (eqb s 3, 4) ∷ [])
 
--- "4..0 count, one less than the number N"
-abbrev pub numberOf : ℕ → ℕ
-numberOf d = bits 4 0 d + 1
+-- "4..0 count, one less than the number N": of points, or of characters
+abbrev pub elementsOf : ℕ → ℕ
+elementsOf d = bits 4 0 d + 1
 
 -- "size undefined: N up to 8 takes 1 byte, up to 16 takes 2, up to 32 takes 4, as in the decoding table of 5.2. Size given: .. N must fit in their bits"
 abbrev pub booleanSize : ℕ → ℕ → ℕ
@@ -64,4 +64,4 @@ sizeBy type s n =
     ∷ [])
 
 unfoldable pub descriptorSize : ℕ → ℕ
-descriptorSize d = cond (unreserved d) (sizeBy (typeOf d) (bits 6 5 d) (numberOf d)) 0
+descriptorSize d = cond (unreserved d) (sizeBy (typeOf d) (bits 6 5 d) (elementsOf d)) 0

@@ -29,21 +29,21 @@ fn size_bytes(size: u16) -> u8
     size as u8
 }
 
-// A number of points: by the number where no size is given, else as sized if they fit in its bits.
-fn boolean_size(size: u16, number: u8) -> u8
-    ensures { λ r. ⌜ r ≡ booleanSize size number ⌝ }
+// Points: by their number where no size is given, else as sized if they fit in its bits.
+fn boolean_size(size: u16, elements: u8) -> u8
+    ensures { λ r. ⌜ r ≡ booleanSize size elements ⌝ }
 {
     if size != 0 {
         let bytes = size_bytes(size);
-        if 8 * bytes < number {
+        if 8 * bytes < elements {
             return 0;
         }
         return bytes;
     }
-    if number <= 8 {
+    if elements <= 8 {
         return 1;
     }
-    if number <= 16 {
+    if elements <= 16 {
         return 2;
     }
     4
@@ -59,18 +59,18 @@ fn real_size(size: u16) -> u8
     0
 }
 
-// By type, size bits and number; 0 for every type that is not served.
-fn size_by(kind: u16, size: u16, number: u8) -> u8
-    requires { ⌜ number ≤ 32 ⌝ }
-    ensures { λ r. ⌜ r ≡ sizeBy kind size number ⌝ }
+// By type, size bits and the number of elements; 0 for every type that is not served.
+fn size_by(kind: u16, size: u16, elements: u8) -> u8
+    requires { ⌜ elements ≤ 32 ⌝ }
+    ensures { λ r. ⌜ r ≡ sizeBy kind size elements ⌝ }
 {
     match kind {
-        BOOLEAN => boolean_size(size, number),
+        BOOLEAN => boolean_size(size, elements),
         SIGNED => size_bytes(size),
         UNSIGNED => size_bytes(size),
         REAL => real_size(size),
-        CHARACTER => number,
-        EXTENDED => 2 * number,
+        CHARACTER => elements,
+        EXTENDED => 2 * elements,
         _ => 0,
     }
 }
@@ -85,6 +85,6 @@ pub fn descriptor_size(descriptor: u16) -> u8
     if descriptor / 128 % 2 != 0 {
         return 0;
     }
-    let number = (descriptor % 32) as u8 + 1;
-    size_by(descriptor / 256 % 16, descriptor / 32 % 4, number)
+    let elements = (descriptor % 32) as u8 + 1;
+    size_by(descriptor / 256 % 16, descriptor / 32 % 4, elements)
 }

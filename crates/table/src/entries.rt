@@ -1,15 +1,11 @@
 // The records of a table: what one holds, whether it fits by itself, and whether all of them are well formed.
 ghost use mathlib.Core.Path.{_≡_};
-ghost use mathlib.Core.Bool.{_&&_};
 ghost use Prim.Native.Nat.{_+_, _*_, _≤_};
-ghost use lib.Dec.{eqb, leb};
 ghost use lib.ListN.{length, drop};
-ghost use Rattle.table.specs.Table.{entrySize, attributeOf, readable, writable, entryFits, pairOf, endOf, wellFormed};
+ghost use Rattle.table.specs.Table.{entrySize, attributeOf, readable, writable, entryFits, pairOf, endOf, follows as Table·follows, wellFormed};
 use crate::Attribute;
 use crate::descriptor::descriptor_size;
-
-// The bytes of a record.
-pub(crate) const ENTRY: usize = 8;
+use crate::sizes::ENTRY;
 
 // A word of the table: low byte first.
 fn word(low: u8, high: u8) -> u16
@@ -80,8 +76,8 @@ pub(crate) fn end_of(a: Attribute) -> usize
 }
 
 // Whether a record fits and follows those before it: its pair is at least the least that may come, its offset is their end.
-fn follows(a: Attribute, least: usize, end: usize) -> bool
-    ensures { λ r. ⌜ r ≡ (entryFits a && leb least (pairOf a) && eqb (a .offset) end) ⌝ }
+fn follows(least: usize, end: usize, a: Attribute) -> bool
+    ensures { λ r. ⌜ r ≡ Table·follows least end a ⌝ }
 {
     if pair_of(a) < least {
         return false;
@@ -101,7 +97,7 @@ pub fn well_formed(table: &[u8], store_len: usize) -> bool
     let mut at: usize = 0;
     while at + ENTRY <= table.len() {
         let a = attribute_at(table, at);
-        if !follows(a, least, end) {
+        if !follows(least, end, a) {
             return false;
         }
         least = pair_of(a) + 1;

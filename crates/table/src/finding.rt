@@ -1,17 +1,15 @@
 // Finding an attribute by its object and ID, and its part of the store.
 ghost use mathlib.Core.Path.{_≡_};
-ghost use mathlib.Core.Bool.{_&&_};
-ghost use lib.Dec.{eqb};
-ghost use Rattle.table.specs.Table.{find as Table·find, partOf, lookup as Table·lookup};
+ghost use Rattle.table.specs.Table.{named as Table·named, searched, partOf};
 use crate::Attribute;
 use crate::Found;
-use crate::entries::ENTRY;
 use crate::entries::attribute_at;
 use crate::entries::end_of;
+use crate::sizes::ENTRY;
 
 // Whether it is the attribute of this object and ID.
-fn named(a: Attribute, object: u8, id: u8) -> bool
-    ensures { λ r. ⌜ r ≡ (eqb (a .object) object && eqb (a .id) id) ⌝ }
+fn named(object: u8, id: u8, a: Attribute) -> bool
+    ensures { λ r. ⌜ r ≡ Table·named object id a ⌝ }
 {
     if a.object != object {
         return false;
@@ -19,14 +17,14 @@ fn named(a: Attribute, object: u8, id: u8) -> bool
     a.id == id
 }
 
-// The first record of (object, ID), in any table, ordered or not: one walk.
+// The record of (object, ID), in any table, well formed or not: one walk, to the first that bears the name.
 pub fn find(table: &[u8], object: u8, id: u8) -> Found
-    ensures { λ r. ⌜ r ≡ Table·find (now (table .entry)) object id ⌝ }
+    ensures { λ r. ⌜ r ≡ searched (now (table .entry)) object id ⌝ }
 {
     let mut at: usize = 0;
     while at + ENTRY <= table.len() {
         let a = attribute_at(table, at);
-        if named(a, object, id) {
+        if named(object, id, a) {
             return Found::At(a);
         }
         at += ENTRY;
@@ -34,24 +32,14 @@ pub fn find(table: &[u8], object: u8, id: u8) -> Found
     Found::Nothing
 }
 
-// An attribute's part of the lent store; empty where it would run past its end.
+// An attribute's part of the lent store, "which the lookup hands back as a part of the caller's store"; empty where it would run past its end.
 pub fn part<'a>(a: Attribute, store: &'a [u8]) -> &'a [u8]
     ensures { λ r. ⌜ now r ≡ partOf a (now (store .entry)) ⌝ }
 {
-    let at = a.offset as usize;
+    let start = a.offset as usize;
     let end = end_of(a);
     if store.len() < end {
         return &store[..0];
     }
-    &store[at..end]
-}
-
-// The same of the attribute that the table has for (object, ID); empty where it has none.
-pub fn lookup<'a>(table: &[u8], object: u8, id: u8, store: &'a [u8]) -> &'a [u8]
-    ensures { λ r. ⌜ now r ≡ Table·lookup (now (table .entry)) object id (now (store .entry)) ⌝ }
-{
-    let Found::At(a) = find(table, object, id) else {
-        return &store[..0];
-    };
-    part(a, store)
+    &store[start..end]
 }

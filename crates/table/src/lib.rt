@@ -2,14 +2,15 @@
 mod descriptor;
 mod entries;
 mod finding;
+mod sizes;
 
 pub use descriptor::descriptor_size;
 pub use entries::may_read;
 pub use entries::may_write;
 pub use entries::well_formed;
 pub use finding::find;
-pub use finding::lookup;
 pub use finding::part;
+pub use sizes::lengths_fit;
 
 // A record of the table: eight bytes.
 pub struct Attribute {
@@ -21,7 +22,7 @@ pub struct Attribute {
     pub descriptor: u16,
 }
 
-// What a lookup of an object's attribute finds.
+// What a search of the table finds.
 pub enum Found {
     At(Attribute),
     Nothing,

@@ -10,7 +10,7 @@ use examples::ROW;
 
 // Whether writing the message gives the record, all ten bytes of it. No example has the byte that is in each place before.
 fn written_back(m: Message, frame: &[u8]) -> bool {
-    let mut again = [0xFF_u8; 10];
+    let mut again = [0xFF_u8; codec::FRAME_SIZE];
     if codec::write(m, &mut again) != 0 {
         return false;
     }

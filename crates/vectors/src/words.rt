@@ -25,9 +25,9 @@ fn print_address(dir: u8, address: u8) {
 // 000, figure 3.8.
 fn print_response(response: u8) {
     match response {
-        0 => print_text(b" request"),
-        1 => print_text(b" successful"),
-        2 => print_text(b" error"),
+        codec::REQUEST => print_text(b" request"),
+        codec::SUCCESSFUL => print_text(b" successful"),
+        codec::ERRONEOUS => print_text(b" error"),
         _ => print_text(b" wait"),
     }
 }

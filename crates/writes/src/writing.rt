@@ -38,6 +38,7 @@ pub fn store_joined(to: Attribute, number: u8, body: Data, work: &[u8], store: &
     join::join_into(
         work,
         join::place_of(to.object),
+        guest::FRAGMENT_BYTES,
         number,
         &places[0..n],
         &mut store[start..end],
@@ -56,6 +57,7 @@ pub fn keep_piece(to: Attribute, number: u8, total: u8, body: Data, work: &mut [
     join::keep(
         work,
         join::place_of(to.object),
+        guest::FRAGMENT_BYTES,
         to.id,
         total,
         number,

@@ -1,12 +1,13 @@
 -- The measure is the number of turns that are left. Store and work area keep their lengths.
 use mathlib.Core.Path.{_≡_}
 use lib.ListN.{length}
+use Rattle.join.specs.Work.{areaSize}
 use borrow.Author.Needs.{needs}
 use Rattle.replay.proofs.main.Statement.{statement}
 use Rattle.replay.proofs.main.Tie as tie
 
 abbrev Inv-loop : tie.InvT-loop
-Inv-loop store₀ work₀ turns₀ store work turns = (length store ≡ 67) × (length work ≡ 8320)
+Inv-loop store₀ work₀ turns₀ store work turns = (length store ≡ 67) × (length work ≡ areaSize)
 
 abbrev μ-loop : tie.MeasureT-loop
 μ-loop store₀ work₀ turns₀ store work turns = turns

@@ -1,6 +1,7 @@
 use Prim.Native.Nat.{_+_, _-_, _*_}
 use mathlib.Core.Path.{_≡_}
 use native.Mathlib.Omega.{arith}
+use Rattle.codec.specs.Names.{frameSize}
 use Rattle.answers.proofs.Sending.{put-there}
 use borrow.Author.Needs.{needs}
 use Rattle.answers.proofs.answering.send.Statement.{statement}
@@ -29,10 +30,11 @@ same-length c = search needs
 
 returns : tie.Need-returns
 returns c =
-    let s = c .before .before .before .before .before in
+    let done = c .before .before in
+    let s = done .before .before .before in
     let a = s .args in
-    let k : a .n * 10 + 10 - a .n * 10 ≡ 10 = omega arith in
-    rw (c .before .before .put-long .ensures, k) (put-there (a .about) (a .flag) (a .payload) (a .out .now) (a .n * 10) (s .pre))
+    let k : a .n * frameSize + frameSize - a .n * frameSize ≡ frameSize = omega arith in
+    rw (done .put-long .ensures, k) (put-there (a .about) (a .flag) (a .payload) (a .out .now) (a .n * frameSize) (s .pre))
 
 pub send-spec : {M : Type 1} → statement M
 send-spec =

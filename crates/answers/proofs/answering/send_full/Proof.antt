@@ -1,14 +1,13 @@
-use Prim.Native.Nat.{_*_, _≤_}
-use mathlib.Core.Path.{_≡_, ap, _∙_}
-use native.Mathlib.Omega.{arith}
-use lib.ListN.{length, take, drop, length-take}
+use Prim.Native.Nat.{_*_}
+use mathlib.Core.Path.{ap, _∙_}
+use lib.ListN.{length}
 use Rattle.laws.specs.Put.{put}
 use Rattle.octets.specs.declared.Data.{Data}
-use Rattle.octets.proofs.Datas.{tidy-data}
 use Rattle.codec.specs.declared.Message.the-variants.{Fragment}
+use Rattle.codec.specs.Names.{frameSize}
 use Rattle.codec.specs.Writing.{imageOf}
 use Rattle.guest.specs.Step.{fragmentFrame}
-use Rattle.answers.proofs.Sending.{four-at}
+use Rattle.answers.proofs.Sending.{part-tidy, full-at}
 use borrow.Author.Needs.{needs}
 use Rattle.answers.proofs.answering.send_full.Statement.{statement}
 use Rattle.answers.proofs.answering.send_full.Tie as tie
@@ -39,11 +38,11 @@ shared-slice-read-t17 c = search needs
 
 send-piece-requires : tie.Need-send-piece-requires
 send-piece-requires c κs =
-    let s = c .before .before .before .before .before .before .before in
+    let fourth = c .before in
+    let first = fourth .before .before .before in
+    let s = first .before .before .before in
     let a = s .args in
-    let p = s .pre in
-    let four : length (take 4 (drop (4 * a .n) (a .part .now))) ≤ 4 = rw length-take (omega arith) in
-    (p .0, omega arith, p .1, rw (four-at (a .part .now) (a .n) (p .2)) (tidy-data _ (omega arith) 4 four), p .3)
+    (s .pre .0, rw (full-at (a .part .now) (a .n) (s .pre .1)) (part-tidy (a .part .now) (a .n)))
 
 same-length : tie.Need-same-length
 same-length c = search needs
@@ -51,10 +50,13 @@ same-length c = search needs
 returns : tie.Need-returns
 unfolding fragmentFrame
 returns c =
-    let s = c .before .before .before .before .before .before .before .before .before .before in
+    let done = c .before .before in
+    let fourth = done .before .before in
+    let first = fourth .before .before .before in
+    let s = first .before .before .before in
     let a = s .args in
-    c .before .before .send-piece .ensures
-    ∙ ap (λ (d : Data). put (a .out .now) (a .n * 10) (imageOf (Fragment (a .about) (a .n) (length (a .part .now)) d))) (four-at (a .part .now) (a .n) (s .pre .2))
+    done .send-piece .ensures
+    ∙ ap (λ (d : Data). put (a .out .now) (a .n * frameSize) (imageOf (Fragment (a .about) (a .n) (length (a .part .now)) d))) (full-at (a .part .now) (a .n) (s .pre .1))
 
 pub send-full-spec : {M : Type 1} → statement M
 send-full-spec =

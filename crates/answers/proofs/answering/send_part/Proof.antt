@@ -1,4 +1,4 @@
-use mathlib.Core.Path.{_≡_, sym, _∙_}
+use mathlib.Core.Path.{sym, _∙_}
 use lib.ListN.{length}
 use borrow.Author.Tests.{le-leb, lt-leb}
 use Rattle.answers.specs.Code.{partFits, partCount, partSent}
@@ -18,27 +18,32 @@ answerable-requires c κs = search needs
 
 send-fitting-requires : tie.Need-send-fitting-requires
 send-fitting-requires c κs =
-    (answerable-exactly _ _ _ .0 (sym (c .before .before .answerable .ensures) ∙ c .before .if2 .taken), c .before .before .before .if1 .left)
+    let fits = c .before in
+    let asked = fits .before in
+    (answerable-exactly _ _ _ .0 (sym (asked .answerable .ensures) ∙ fits .if2 .taken), asked .before .if1 .left)
 
 same-length : tie.Need-same-length
 same-length c = search needs
 
 returns-2 : tie.Need-returns-2
 returns-2 c =
-    let f = c .before .before .before .before in
-    let i = f .before .before in
-    let a = i .before .before .before .args in
-    let e = answerable-exactly _ _ _ .0 (sym (f .before .answerable .ensures) ∙ f .if2 .taken) in (
-      c .before .before .send-fitting .ensures .0 ∙ sym (part-count (a .own) (a .h) (a .out .now) e (a .part .now) (i .if1 .left)),
-      c .before .before .send-fitting .ensures .1 ∙ sym (part-sent (a .own) (a .h) (a .out .now) e (a .part .now) (i .if1 .left)),
+    let done = c .before .before in
+    let fits = done .before .before in
+    let asked = fits .before in
+    let short = asked .before in
+    let a = short .before .before .before .args in
+    let e = answerable-exactly _ _ _ .0 (sym (asked .answerable .ensures) ∙ fits .if2 .taken) in (
+      done .send-fitting .ensures .0 ∙ sym (part-count (a .own) (a .h) (a .out .now) e (a .part .now) (short .if1 .left)),
+      done .send-fitting .ensures .1 ∙ sym (part-sent (a .own) (a .h) (a .out .now) e (a .part .now) (short .if1 .left)),
     )
 
 returns-3 : tie.Need-returns-3
 unfolding partCount partSent partFits
 returns-3 c =
-    let a = c .before .before .before .before .before .args in
-    let t = le-leb (length (a .part .now)) 255 (c .before .before .if1 .left) in
-    let f = sym (c .before .answerable .ensures) ∙ c .if2 .left in
+    let asked = c .before in
+    let short = asked .before in
+    let t = le-leb (length (short .before .before .before .args .part .now)) 255 (short .if1 .left) in
+    let f = sym (asked .answerable .ensures) ∙ c .if2 .left in
     (simp (t, f), simp (t, f))
 
 pub send-part-spec : {M : Type 1} → statement M

@@ -1,11 +1,6 @@
-use Prim.Native.Nat.{ℕ, _*_}
-use mathlib.Core.Path.{_≡_, ap, _∙_}
-use mathlib.Core.List.{List}
+use mathlib.Core.Path.{_∙_}
 use native.Mathlib.Omega.{arith}
-use Rattle.laws.specs.Bytes.{padded}
-use Rattle.laws.specs.Put.{put}
-use Rattle.octets.specs.Data.{bytesOf}
-use Rattle.codec.specs.Writing.{longFrame, frameOf, imageOf}
+use Rattle.codec.specs.Writing.{frameOf, imageOf}
 use Rattle.codec.proofs.Images.{places-are-image, prefixed-is, fragment-payload}
 use borrow.Author.Needs.{needs}
 use Rattle.answers.proofs.answering.send_piece.Statement.{statement}
@@ -21,7 +16,7 @@ prefixed-requires : tie.Need-prefixed-requires
 prefixed-requires c κs = search needs
 
 send-requires : tie.Need-send-requires
-send-requires c κs = c .before .before .before .pre .4
+send-requires c κs = search needs
 
 same-length : tie.Need-same-length
 same-length c = search needs
@@ -29,13 +24,15 @@ same-length c = search needs
 returns : tie.Need-returns
 unfolding imageOf frameOf
 returns c =
-    let s = c .before .before .before .before .before .before in
+    let done = c .before .before in
+    let made = done .before .before in
+    let s = made .before .before in
     let a = s .args in
-    let t = s .pre .3 in
-    let e = c .before .before .before .before .prefixed .ensures ∙ prefixed-is _ _ _ t in
+    let t = s .pre .1 in
+    let e = made .prefixed .ensures ∙ prefixed-is _ _ _ t in
     let p = fragment-payload (a .n) (a .total) (a .body) t in
-    c .before .before .send .ensures
-    ∙ rw (e, places-are-image (a .about) 1 _ (s .pre .0) (omega arith) (p .0), p .1)
+    done .send .ensures
+    ∙ rw (e, places-are-image (a .about) 1 _ (s .pre .0 .subject) (omega arith) (p .0), p .1)
 
 pub send-piece-spec : {M : Type 1} → statement M
 send-piece-spec =

@@ -43,8 +43,8 @@ returns-2 : tie.Need-returns-2
 returns-2 c =
     let w = c .before .before in
     let m = w .before .before .before in
-    let i = m .before .before in
-    rw (m .m .given .1) (short-written (i .before .before .args .frame .now) (i .if1 .left) _ _ _ _ _ (w .write-short .ensures))
+    let ten = m .before .before .if1 .left in
+    rw (m .m .given .1) (short-written _ ten _ _ _ _ _ (w .write-short .ensures))
 
 same-length-2 : tie.Need-same-length-2
 same-length-2 c = search needs
@@ -54,9 +54,8 @@ returns-3 c =
     let w = c .before .before in
     let l = w .before .before in
     let m = l .before .before in
-    let i = m .before .before in
-    rw (m .m2 .given .1)
-    (plain-written (i .before .before .args .frame .now) (i .if1 .left) _ _ _ _ _ (l .long-fits .ensures) (w .write-long .ensures))
+    let ten = m .before .before .if1 .left in
+    rw (m .m2 .given .1) (plain-written _ ten _ _ _ _ _ (l .long-fits .ensures) (w .write-long .ensures))
 
 same-length-3 : tie.Need-same-length-3
 same-length-3 c = search needs
@@ -67,9 +66,9 @@ returns-4 c =
     let p = w .before .before in
     let l = p .before in
     let m = l .before .before in
-    let i = m .before .before in
+    let ten = m .before .before .if1 .left in
     rw (m .m3 .given .1)
-    (fragment-written (i .before .before .args .frame .now) (i .if1 .left) _ _ _ _ _ _ _ (l .long-fits2 .ensures) _ (p .prefixed .ensures) (w .write-long2 .ensures))
+    (fragment-written _ ten _ _ _ _ _ _ _ (l .long-fits2 .ensures) _ (p .prefixed .ensures) (w .write-long2 .ensures))
 
 pub write-spec : {M : Type 1} → statement M
 write-spec =

@@ -1,5 +1,6 @@
 use native.Mathlib.Omega.{arith}
-use Rattle.device.proofs.Outcomes.{misfit-step, own-most, ill-formed-step, unrouted-step, step-ready, step-outcome}
+use Rattle.guest.specs.Step.{areas, call}
+use Rattle.device.proofs.Outcomes.{misfit-outcome, ill-formed-outcome, unrouted-outcome, own-byte, step-ready, step-outcome}
 use borrow.Author.Needs.{needs}
 use Rattle.device.proofs.stepping.step.Statement.{statement}
 use Rattle.device.proofs.stepping.step.Tie as tie
@@ -9,20 +10,21 @@ misfit-requires c κs = search needs
 
 returns : tie.Need-returns
 returns c =
-    let m = c .before in
-    let a = m .before .before .before .before .before .before .args in
-    misfit-step (a .frame .now) (a .own) (a .table .now) (a .store .now) (a .work .now) (a .out .now) _ (m .misfit .ensures) (c .if1 .taken)
+    let sizes = c .before in
+    let a = sizes .before .before .before .before .before .before .args in
+    misfit-outcome (call (a .frame .now) (a .own) (a .table .now) (areas (a .store .now) (a .work .now)) (a .out .now)) _ (sizes .misfit .ensures) (c .if1 .taken)
 
 well-formed-requires : tie.Need-well-formed-requires
 well-formed-requires c κs = search needs
 
 returns-2 : tie.Need-returns-2
 returns-2 c =
-    let w = c .before in
-    let i = w .before in
-    let m = i .before in
-    let a = m .before .before .before .before .before .before .args in
-    ill-formed-step (a .frame .now) (a .own) (a .table .now) (a .store .now) (a .work .now) (a .out .now) _ (m .misfit .ensures) (i .if1 .left) _ (w .well-formed .ensures) (c .if2 .taken)
+    let table = c .before in
+    let fits = table .before in
+    let sizes = fits .before in
+    let a = sizes .before .before .before .before .before .before .args in
+    ill-formed-outcome (call (a .frame .now) (a .own) (a .table .now) (areas (a .store .now) (a .work .now)) (a .out .now))
+    _ (sizes .misfit .ensures) (fits .if1 .left) _ (table .well-formed .ensures) (c .if2 .taken)
 
 header-of-requires : tie.Need-header-of-requires
 header-of-requires c κs = search needs
@@ -32,38 +34,52 @@ route-number-requires c κs = search needs
 
 returns-3 : tie.Need-returns-3
 returns-3 c =
-    let n = c .before in
-    let h = n .before in
-    let j = h .before in
-    let w = j .before in
-    let i = w .before in
-    let m = i .before in
-    let a = m .before .before .before .before .before .before .args in
-    unrouted-step (a .frame .now) (a .own) (a .table .now) (a .store .now) (a .work .now) (a .out .now) _ (m .misfit .ensures) (i .if1 .left) _ (w .well-formed .ensures) (j .if2 .left) _ (h .header-of .ensures) _ (n .route-number .ensures) (c .if3 .taken)
+    let number = c .before in
+    let header = number .before in
+    let formed = header .before in
+    let table = formed .before in
+    let fits = table .before in
+    let sizes = fits .before in
+    let a = sizes .before .before .before .before .before .before .args in
+    unrouted-outcome (call (a .frame .now) (a .own) (a .table .now) (areas (a .store .now) (a .work .now)) (a .out .now))
+    _ (sizes .misfit .ensures) (fits .if1 .left) _ (table .well-formed .ensures) (formed .if2 .left)
+    _ (header .header-of .ensures) _ (number .route-number .ensures) (c .if3 .taken)
 
 request-plan-requires : tie.Need-request-plan-requires
 request-plan-requires c κs = search needs
 
 cast-apply : tie.Need-cast-apply
 cast-apply c =
-    let i = c .before .before .before .before .before .before in
-    let m = i .before in
-    let a = m .before .before .before .before .before .before .args in
-    omega (arith, own-most (a .frame .now) (a .own) (a .table .now) (a .store .now) (a .work .now) (a .out .now) _ (m .misfit .ensures) (i .if1 .left))
+    let passed = c .before in
+    let number = passed .before in
+    let header = number .before in
+    let formed = header .before in
+    let table = formed .before in
+    let fits = table .before in
+    let sizes = fits .before in
+    let a = sizes .before .before .before .before .before .before .args in
+    omega (
+      arith,
+      own-byte (call (a .frame .now) (a .own) (a .table .now) (areas (a .store .now) (a .work .now)) (a .out .now))
+          _ (sizes .misfit .ensures) (fits .if1 .left) _ (table .well-formed .ensures) (formed .if2 .left)
+          _ (header .header-of .ensures) _ (number .route-number .ensures) (passed .if3 .left),
+    )
 
 apply-requires : tie.Need-apply-requires
 apply-requires c κs =
-    let r = c .before .before .before in
-    let k = r .before in
-    let n = k .before in
-    let h = n .before in
-    let j = h .before in
-    let w = j .before in
-    let i = w .before in
-    let m = i .before in
-    let a = m .before .before .before .before .before .before .args in
-    step-ready (a .frame .now) (a .own) (a .table .now) (a .store .now) (a .work .now) (a .out .now)
-    _ (m .misfit .ensures) (i .if1 .left) _ (w .well-formed .ensures) (j .if2 .left) _ (h .header-of .ensures) _ (n .route-number .ensures) (k .if3 .left) _ (r .request-plan .ensures)
+    let plan = c .before .before .before in
+    let passed = plan .before in
+    let number = passed .before in
+    let header = number .before in
+    let formed = header .before in
+    let table = formed .before in
+    let fits = table .before in
+    let sizes = fits .before in
+    let a = sizes .before .before .before .before .before .before .args in
+    step-ready (call (a .frame .now) (a .own) (a .table .now) (areas (a .store .now) (a .work .now)) (a .out .now))
+    _ (sizes .misfit .ensures) (fits .if1 .left) _ (table .well-formed .ensures) (formed .if2 .left)
+    _ (header .header-of .ensures) _ (number .route-number .ensures) (passed .if3 .left)
+    _ (plan .request-plan .ensures)
 
 same-length : tie.Need-same-length
 same-length c = search needs
@@ -76,18 +92,20 @@ same-length-3 c = search needs
 
 returns-4 : tie.Need-returns-4
 returns-4 c =
-    let y = c .before .before .before .before .before .before in
-    let r = y .before .before .before .before in
-    let k = r .before in
-    let n = k .before in
-    let h = n .before in
-    let j = h .before in
-    let w = j .before in
-    let i = w .before in
-    let m = i .before in
-    let a = m .before .before .before .before .before .before .args in
-    step-outcome (a .frame .now) (a .own) (a .table .now) (a .store .now) (a .work .now) (a .out .now)
-    _ (m .misfit .ensures) (i .if1 .left) _ (w .well-formed .ensures) (j .if2 .left) _ (h .header-of .ensures) _ (n .route-number .ensures) (k .if3 .left) _ (r .request-plan .ensures) _ (y .apply .ensures)
+    let applied = c .before .before .before .before .before .before in
+    let plan = applied .before .before .before .before in
+    let passed = plan .before in
+    let number = passed .before in
+    let header = number .before in
+    let formed = header .before in
+    let table = formed .before in
+    let fits = table .before in
+    let sizes = fits .before in
+    let a = sizes .before .before .before .before .before .before .args in
+    step-outcome (call (a .frame .now) (a .own) (a .table .now) (areas (a .store .now) (a .work .now)) (a .out .now))
+    _ (sizes .misfit .ensures) (fits .if1 .left) _ (table .well-formed .ensures) (formed .if2 .left)
+    _ (header .header-of .ensures) _ (number .route-number .ensures) (passed .if3 .left)
+    _ (plan .request-plan .ensures) _ (applied .apply .ensures)
 
 pub step-spec : {M : Type 1} → statement M
 step-spec =

@@ -4,6 +4,7 @@ use native.Mathlib.Omega.{arith}
 use lib.ListN.{length, take, drop}
 use borrow.Rule.Slice.PartMut.{mid-len}
 use Rattle.laws.proofs.Tests.{tests}
+use Rattle.join.specs.Work.{headSize}
 use Rattle.join.specs.Code.{joinFits}
 use Rattle.join.proofs.Parts.{both-copied, joins}
 use borrow.Author.Needs.{needs}
@@ -22,8 +23,9 @@ add-if1 c = search needs
 returns : tie.Need-returns
 unfolding joinFits
 returns c =
-    let a = c .before .before .before .before .before .before .args in
-    let h : length (a .work .now) < a .at + 4 + 4 * a .number = omega arith in
+    let start = c .before .before in
+    let a = start .before .before .before .before .args in
+    let h : length (a .work .now) < a .at + headSize + a .width * a .number = omega (arith, start .start-of .ensures .times) in
     search tests
 
 add-if2 : tie.Need-add-if2
@@ -32,9 +34,11 @@ add-if2 c = search needs
 returns-2 : tie.Need-returns-2
 unfolding joinFits
 returns-2 c =
-    let a = c .before .before .before .before .before .before .before .args in
-    let h : a .at + 4 + 4 * a .number ≤ length (a .work .now) = omega arith in
-    let k : length (a .part .now) ≡ 4 * a .number + length (a .body .now) → ⊥ = λ e. omega arith in
+    let start = c .before .before .before in
+    let a = start .before .before .before .before .args in
+    let held = start .start-of .ensures .times in
+    let h : a .at + headSize + a .width * a .number ≤ length (a .work .now) = omega (arith, held) in
+    let k : length (a .part .now) ≡ a .width * a .number + length (a .body .now) → ⊥ = λ e. omega (arith, held) in
     search tests
 
 add-start : tie.Need-add-start
@@ -76,12 +80,13 @@ returns-3 c =
     let one = two .before .before .before .before in
     let s = one .before .before .before .before .before .before in
     let a = s .before .before .before .before .args in
-    let start = a .at + 4 in
+    let start = a .at + headSize in
     let held = s .start-of .result in
+    let times : held ≡ a .width * a .number = s .start-of .ensures .times in
     let front = take (start + held - start) (drop start (a .work .now)) in
     let long = mid-len start (start + held) (a .work .now) (omega arith) in
-    let q : start + held - start ≡ 4 * a .number = omega arith in
-    let fits = joins (a .at) (a .number) (length (a .body .now)) (length (a .work .now)) (length (a .part .now)) (omega arith) (omega arith) in
+    let q : start + held - start ≡ a .width * a .number = omega arith in
+    let fits = joins (length (a .work .now)) (a .at) (a .width) (a .number) (length (a .body .now)) (length (a .part .now)) (omega arith) (omega arith) in
     both-copied held front (a .body .now) (a .part .now) _ _ (omega (arith, long)) (omega arith) (one .copy .ensures .1) (two .copy2 .ensures .1)
     ∙ rw (q, fits)
 

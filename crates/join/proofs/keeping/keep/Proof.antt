@@ -1,8 +1,9 @@
 use Prim.Native.Nat.{_+_, _*_, _<_, _≤_}
-use mathlib.Core.Path.{_≡_}
+use mathlib.Core.Path.{_≡_, refl}
 use native.Mathlib.Omega.{arith}
 use lib.ListN.{length}
 use Rattle.laws.proofs.Tests.{tests}
+use Rattle.join.specs.Work.{headSize, simple}
 use Rattle.join.specs.Code.{keepFits}
 use Rattle.join.proofs.Parts.{both-put, keeps}
 use borrow.Author.Needs.{needs}
@@ -30,9 +31,10 @@ add-if2 c = search needs
 returns-2 : tie.Need-returns-2
 unfolding keepFits
 returns-2 c =
-    let a = c .before .before .before .before .before .before .args in
+    let start = c .before .before in
+    let a = start .before .before .before .before .args in
     let n : a .number < 255 = omega arith in
-    let h : length (a .work .now) < a .at + 4 + 4 * a .number + length (a .body .now) = omega arith in
+    let h : length (a .work .now) < a .at + headSize + a .width * a .number + length (a .body .now) = omega (arith, start .start-of .ensures .times) in
     search tests
 
 add-put-at : tie.Need-add-put-at
@@ -52,13 +54,14 @@ same-length c = search needs
 
 returns-3 : tie.Need-returns-3
 returns-3 c =
-    let m = c .before .before in
-    let p = m .before .before .before .before in
-    let s = p .before .before .before .before in
-    let a = s .before .before .before .before .args in
-    let q : a .at + (4 + s .start-of .result) ≡ a .at + 4 + 4 * a .number = omega arith in
-    let fits = keeps (a .at) (a .number) (length (a .body .now)) (length (a .work .now)) (omega arith) (omega arith) in
-    rw fits (both-put (a .at) _ _ (a .work .now) _ _ q (p .put-at .ensures) (m .mark .ensures))
+    let mark = c .before .before in
+    let put = mark .before .before .before .before in
+    let start = put .before .before .before .before in
+    let a = start .before .before .before .before .args in
+    let held = start .start-of .ensures .times in
+    let place : a .at + (headSize + start .start-of .result) ≡ a .at + headSize + a .width * a .number = omega (arith, held) in
+    let fits = keeps (length (a .work .now)) (a .at) (a .width) (a .number) (length (a .body .now)) (omega arith) (omega (arith, held)) in
+    rw fits (both-put (simple (a .width)) (a .at) _ _ (a .work .now) _ _ refl place (put .put-at .ensures) (mark .mark .ensures))
 
 pub keep-spec : {M : Type 1} → statement M
 keep-spec =

@@ -36,7 +36,7 @@ returns : tie.Need-returns
 unfolding put
 returns c =
     let a = c .args in
-    simp (add-one, add-two, add-three) (sets-eq (1 ∷ a .id ∷ a .total ∷ a .next ∷ []) (a .work .now) (a .at) (omega arith))
+    simp (add-one, add-two, add-three) (sets-eq (1 ∷ a .key ∷ a .total ∷ a .next ∷ []) (a .work .now) (a .at) (omega arith))
 
 pub mark-spec : {M : Type 1} → statement M
 mark-spec =

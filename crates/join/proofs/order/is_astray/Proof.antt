@@ -1,8 +1,7 @@
-use Prim.Native.Nat.{_+_}
-use mathlib.Core.Path.{_≡_, sym}
+use mathlib.Core.Path.{sym}
 use mathlib.Core.Bool.{or-true}
+use mathlib.Core.List.{[], _∷_}
 use native.Mathlib.Omega.{arith}
-use lib.ListN.{getD}
 use Rattle.laws.proofs.Tests.{tests}
 use Rattle.join.specs.Work.{load, astray}
 use Rattle.join.proofs.Parts.{lacking, agreed}
@@ -20,7 +19,7 @@ room-from-requires c κs = search needs
 returns-2 : tie.Need-returns-2
 returns-2 c =
     let a = c .before .before .before .before .args in
-    sym (lacking 4 (a .at) (a .work .now) _ (c .before .before .if1 .left) (omega arith))
+    sym (lacking _ (a .at) (a .work .now) _ (c .before .before .if1 .left) (omega arith))
 
 shared-slice-read-if3 : tie.Need-shared-slice-read-if3
 shared-slice-read-if3 c = search needs
@@ -58,8 +57,7 @@ shared-slice-read-if6 c = search needs
 returns-6 : tie.Need-returns-6
 unfolding load astray
 returns-6 c =
-    let a = c .before .before .before .before .before .before .before .before .before .before .before .before .args in
-    let h : getD (a .work .now) (a .at + 3) 0 ≡ a .number → ⊥ = λ e. omega arith in
+    let h = c .if6 .taken in
     search (tests, or-true)
 
 start-of-requires : tie.Need-start-of-requires
@@ -68,11 +66,13 @@ start-of-requires c κs = search needs
 returns-7 : tie.Need-returns-7
 unfolding load
 returns-7 c =
-    let k = c .before in
-    let t = k .before .before in
-    let i = t .before .before in
-    let s = i .before .before in
-    rw (c .start-of .ensures) (sym (agreed 4 _ _ (s .before .before .before .before .if1 .left) (s .if3 .left) (i .if4 .left) (t .if5 .left) (k .if6 .left)))
+    let next = c .before in
+    let total = next .before .before in
+    let key = total .before .before in
+    let status = key .before .before in
+    let number = status .before .before .before .before in
+    rw (c .start-of .ensures .times)
+    (sym (agreed _ _ _ (number .if1 .left) (status .if3 .left) (λ i. key .if4 .left i ∷ []) (total .if5 .left) (next .if6 .left)))
 
 pub is-astray-spec : {M : Type 1} → statement M
 is-astray-spec =

@@ -9,7 +9,7 @@ add-result : tie.Need-add-result
 add-result c = search needs
 
 returns : tie.Need-returns
-returns c = rw (c .start-of .ensures)
+returns c = rw (c .start-of .ensures .times)
 
 pub is-last-spec : {M : Type 1} → statement M
 is-last-spec = tie.close (tie.spec start-of-requires add-result returns)

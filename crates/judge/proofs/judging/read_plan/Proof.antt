@@ -1,4 +1,4 @@
-use mathlib.Core.Path.{_≡_, sym, _∙_}
+use mathlib.Core.Path.{sym, _∙_}
 use borrow.Author.Tests.{eq-eqb, ne-eqb}
 use Rattle.judge.specs.Code.{readPlan}
 use borrow.Author.Needs.{needs}
@@ -25,8 +25,11 @@ enum-told c = search needs
 returns-3 : tie.Need-returns-3
 unfolding readPlan
 returns-3 c =
-    simp (ne-eqb _ _ (c .before .before .before .before .before .if1 .left), eq-eqb _ _ (c .before .before .before .if2 .left))
-    (rw (sym (c .before .before .find .ensures) ∙ c .enum-told .given .1))
+    let looked = c .before .before in
+    let length = looked .before in
+    let flag = length .before .before in
+    simp (ne-eqb _ _ (flag .if1 .left), eq-eqb _ _ (length .if2 .left))
+    (rw (sym (looked .find .ensures) ∙ c .enum-told .given .1))
 
 may-read-requires : tie.Need-may-read-requires
 may-read-requires c κs = search needs
@@ -34,16 +37,26 @@ may-read-requires c κs = search needs
 returns-4 : tie.Need-returns-4
 unfolding readPlan
 returns-4 c =
-    simp (ne-eqb _ _ (c .before .before .before .before .before .before .before .before .if1 .left), eq-eqb _ _ (c .before .before .before .before .before .before .if2 .left))
-    (rw (sym (c .before .before .before .before .before .find .ensures) ∙ c .before .before .before .a .given .1)
-    (simp (sym (c .before .may-read .ensures) ∙ c .if3 .taken)))
+    let access = c .before in
+    let found = access .before .before in
+    let looked = found .before .before in
+    let length = looked .before in
+    let flag = length .before .before in
+    simp (ne-eqb _ _ (flag .if1 .left), eq-eqb _ _ (length .if2 .left))
+    (rw (sym (looked .find .ensures) ∙ found .a .given .1)
+    (simp (sym (access .may-read .ensures) ∙ c .if3 .taken)))
 
 returns-5 : tie.Need-returns-5
 unfolding readPlan
 returns-5 c =
-    simp (ne-eqb _ _ (c .before .before .before .before .before .before .before .before .if1 .left), eq-eqb _ _ (c .before .before .before .before .before .before .if2 .left))
-    (rw (sym (c .before .before .before .before .before .find .ensures) ∙ c .before .before .before .a .given .1)
-    (simp (sym (c .before .may-read .ensures) ∙ c .if3 .left)))
+    let access = c .before in
+    let found = access .before .before in
+    let looked = found .before .before in
+    let length = looked .before in
+    let flag = length .before .before in
+    simp (ne-eqb _ _ (flag .if1 .left), eq-eqb _ _ (length .if2 .left))
+    (rw (sym (looked .find .ensures) ∙ found .a .given .1)
+    (simp (sym (access .may-read .ensures) ∙ c .if3 .left)))
 
 pub read-plan-spec : {M : Type 1} → statement M
 read-plan-spec =

@@ -1,4 +1,4 @@
-use mathlib.Core.Path.{_≡_, sym, _∙_}
+use mathlib.Core.Path.{sym, _∙_}
 use borrow.Author.Tests.{eq-eqb, ne-eqb, lt-ltb, le-ltb}
 use Rattle.judge.specs.Code.{planByService}
 use borrow.Author.Needs.{needs}
@@ -14,7 +14,10 @@ read-plan-requires c κs = search needs
 
 returns-2 : tie.Need-returns-2
 unfolding planByService
-returns-2 c = simp (le-ltb _ _ (c .before .before .before .if1 .left), eq-eqb _ _ (c .before .if2 .taken)) (c .read-plan .ensures)
+returns-2 c =
+    let service = c .before in
+    let served = service .before .before in
+    simp (le-ltb _ _ (served .if1 .left), eq-eqb _ _ (service .if2 .taken)) (c .read-plan .ensures)
 
 read-requires : tie.Need-read-requires
 read-requires c κs = search needs
@@ -28,8 +31,11 @@ enum-told c = search needs
 returns-3 : tie.Need-returns-3
 unfolding planByService
 returns-3 c =
-    simp (le-ltb _ _ (c .before .before .before .before .before .if1 .left), ne-eqb _ _ (c .before .before .before .if2 .left))
-    (rw (sym (c .before .before .read .ensures) ∙ c .enum-told .given .1))
+    let read = c .before .before in
+    let service = read .before in
+    let served = service .before .before in
+    simp (le-ltb _ _ (served .if1 .left), ne-eqb _ _ (service .if2 .left))
+    (rw (sym (read .read .ensures) ∙ c .enum-told .given .1))
 
 write-plan-requires : tie.Need-write-plan-requires
 write-plan-requires c κs = search needs
@@ -37,8 +43,12 @@ write-plan-requires c κs = search needs
 returns-4 : tie.Need-returns-4
 unfolding planByService
 returns-4 c =
-    simp (le-ltb _ _ (c .before .before .before .before .before .before .before .if1 .left), ne-eqb _ _ (c .before .before .before .before .before .if2 .left))
-    (rw (sym (c .before .before .before .before .read .ensures) ∙ c .before .before .m .given .1) (c .write-plan .ensures))
+    let message = c .before .before in
+    let read = message .before .before in
+    let service = read .before in
+    let served = service .before .before in
+    simp (le-ltb _ _ (served .if1 .left), ne-eqb _ _ (service .if2 .left))
+    (rw (sym (read .read .ensures) ∙ message .m .given .1) (c .write-plan .ensures))
 
 pub request-plan-spec : {M : Type 1} → statement M
 request-plan-spec =

@@ -1,4 +1,4 @@
-use mathlib.Core.Path.{_≡_, sym, _∙_}
+use mathlib.Core.Path.{sym, _∙_}
 use Rattle.judge.specs.Code.{writePlan}
 use borrow.Author.Needs.{needs}
 use Rattle.judge.proofs.judging.write_plan.Statement.{statement}
@@ -26,14 +26,21 @@ body-plan-requires c κs = search needs
 returns-2 : tie.Need-returns-2
 unfolding writePlan
 returns-2 c =
-    rw (sym (c .before .before .before .before .before .before .find .ensures) ∙ c .before .before .before .before .a .given .1)
-    (simp (sym (c .before .before .may-write .ensures) ∙ c .before .if1 .taken) (c .body-plan .ensures))
+    let i = c .before in
+    let access = i .before in
+    let found = access .before .before in
+    let looked = found .before .before in
+    rw (sym (looked .find .ensures) ∙ found .a .given .1)
+    (simp (sym (access .may-write .ensures) ∙ i .if1 .taken) (c .body-plan .ensures))
 
 returns-3 : tie.Need-returns-3
 unfolding writePlan
 returns-3 c =
-    rw (sym (c .before .before .before .before .before .find .ensures) ∙ c .before .before .before .a .given .1)
-    (simp (sym (c .before .may-write .ensures) ∙ c .if1 .left))
+    let access = c .before in
+    let found = access .before .before in
+    let looked = found .before .before in
+    rw (sym (looked .find .ensures) ∙ found .a .given .1)
+    (simp (sym (access .may-write .ensures) ∙ c .if1 .left))
 
 pub write-plan-spec : {M : Type 1} → statement M
 write-plan-spec =

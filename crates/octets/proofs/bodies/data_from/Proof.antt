@@ -27,8 +27,13 @@ byte-at-requires-6 c κs = search needs
 
 returns : tie.Need-returns
 returns c =
-    let n = c .before .before .before .before .before .before in
-    simp (c .byte-at6 .ensures, c .before .byte-at5 .ensures, c .before .before .byte-at4 .ensures, c .before .before .before .byte-at3 .ensures, c .before .before .before .before .byte-at2 .ensures, c .before .before .before .before .before .byte-at .ensures, n .least-of-six .ensures)
+    let b4 = c .before in
+    let b3 = b4 .before in
+    let b2 = b3 .before in
+    let b1 = b2 .before in
+    let b0 = b1 .before in
+    let n = b0 .before in
+    simp (c .byte-at6 .ensures, b4 .byte-at5 .ensures, b3 .byte-at4 .ensures, b2 .byte-at3 .ensures, b1 .byte-at2 .ensures, b0 .byte-at .ensures, n .least-of-six .ensures)
     (sym (data-front (n .before .before .args .bytes .now)))
 
 pub data-from-spec : {M : Type 1} → statement M

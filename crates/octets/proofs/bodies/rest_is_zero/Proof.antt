@@ -19,14 +19,16 @@ rest-of-three-is-zero-requires-3 c κs = search needs
 
 returns-2 : tie.Need-returns-2
 returns-2 c =
-    let i = c .before in
-    let last = sym (i .before .rest-of-three-is-zero2 .ensures) ∙ i .if2 .taken in
-    c .rest-of-three-is-zero3 .ensures ∙ sym (rest-zero _ _ _ _ _ (i .before .before .if1 .left) last)
+    let t = c .before in
+    let l = t .before in
+    let last = sym (l .rest-of-three-is-zero2 .ensures) ∙ t .if2 .taken in
+    c .rest-of-three-is-zero3 .ensures ∙ sym (rest-zero _ _ _ _ _ (l .before .if1 .left) last)
 
 returns-3 : tie.Need-returns-3
 returns-3 c =
-    let last = sym (c .before .rest-of-three-is-zero2 .ensures) ∙ c .if2 .left in
-    sym (rest-not-zero _ _ _ _ _ (c .before .before .if1 .left) last)
+    let l = c .before in
+    let last = sym (l .rest-of-three-is-zero2 .ensures) ∙ c .if2 .left in
+    sym (rest-not-zero _ _ _ _ _ (l .before .if1 .left) last)
 
 pub rest-is-zero-spec : {M : Type 1} → statement M
 rest-is-zero-spec =

@@ -1,6 +1,5 @@
-use mathlib.Core.Path.{_≡_, sym, _∙_}
+use mathlib.Core.Path.{sym, _∙_}
 use borrow.Author.Tests.{eq-eqb, ne-eqb}
-use Rattle.laws.specs.Bytes.{byteAt}
 use Rattle.sds.specs.Border.{messageAt}
 use borrow.Author.Needs.{needs}
 use Rattle.sds.proofs.messages.message_at.Statement.{statement}

@@ -7,7 +7,6 @@ use borrow.Author.Tests.{eq-eqb}
 use Rattle.laws.proofs.Bytes.{stored}
 use Rattle.laws.proofs.Tests.{tests}
 use Rattle.sds.specs.Border.{longBytes}
-use borrow.Author.Needs.{needs}
 use Rattle.sds.proofs.messages.put_places.Statement.{statement}
 use Rattle.sds.proofs.messages.put_places.Tie as tie
 

@@ -1,7 +1,7 @@
 use native.Mathlib.Omega.{arith}
 use borrow.Author.Needs.{needs}
 use Rattle.laws.proofs.Tests.{tests}
-use Rattle.table.proofs.Records.{size-bytes-most}
+use Rattle.table.proofs.Descriptors.{size-bytes-most}
 use Rattle.table.proofs.descriptor.boolean_size.Statement.{statement}
 use Rattle.table.proofs.descriptor.boolean_size.Tie as tie
 

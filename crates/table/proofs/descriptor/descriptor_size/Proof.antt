@@ -13,11 +13,11 @@ returns-2 : tie.Need-returns-2
 unfolding descriptorSize
 returns-2 c = search tests
 
-cast-number : tie.Need-cast-number
-cast-number c = search needs
+cast-elements : tie.Need-cast-elements
+cast-elements c = search needs
 
-add-number : tie.Need-add-number
-add-number c = search needs
+add-elements : tie.Need-add-elements
+add-elements c = search needs
 
 size-by-requires : tie.Need-size-by-requires
 size-by-requires c κs = search needs
@@ -28,4 +28,4 @@ returns-3 c = search (tests, div-one, c .size-by .ensures)
 
 pub descriptor-size-spec : {M : Type 1} → statement M
 descriptor-size-spec =
-    tie.close (tie.spec returns returns-2 cast-number add-number size-by-requires returns-3)
+    tie.close (tie.spec returns returns-2 cast-elements add-elements size-by-requires returns-3)

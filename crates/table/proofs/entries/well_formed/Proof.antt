@@ -35,8 +35,9 @@ returns : tie.Need-returns Inv-loop μ-loop
 returns c =
     let f = c .before in
     let a = f .before in
+    let l = a .before in
     let n = sym (f .follows .ensures) ∙ not-true (f .follows .result) (c .if1 .taken) in
-    sym (sym (a .before .before .loop .inv .1) ∙ well-turn _ _ _ (a .before .loop-test .taken) (a .attribute-at .ensures) _ _ _ false n)
+    sym (sym (l .before .loop .inv .1) ∙ well-turn _ _ _ (l .loop-test .taken) (a .attribute-at .ensures) _ _ _ false n)
 
 pair-of-requires : tie.Need-pair-of-requires Inv-loop μ-loop
 pair-of-requires c κs = search needs
@@ -59,9 +60,10 @@ loop-again c = (
   let i = c .before .before in
       let f = i .before in
       let a = f .before in
+      let l = a .before in
       let y = sym (f .follows .ensures) ∙ not-false (f .follows .result) (i .if1 .left) in
-      let w = well-turn _ _ _ (a .before .loop-test .taken) (a .attribute-at .ensures) _ _ _ true y in
-      rw (c .end-of .ensures, c .before .pair-of .ensures) (sym w ∙ a .before .before .loop .inv .1),
+      let w = well-turn _ _ _ (l .loop-test .taken) (a .attribute-at .ensures) _ _ _ true y in
+      rw (c .end-of .ensures, c .before .pair-of .ensures) (sym w ∙ l .before .loop .inv .1),
 )
 
 returns-2 : tie.Need-returns-2 Inv-loop μ-loop

@@ -4,19 +4,20 @@ use mathlib.Core.Bool.{true, false}
 use native.Mathlib.Omega.{arith}
 use lib.ListN.{length, drop}
 use borrow.Author.Needs.{needs}
-use Rattle.table.specs.Table.{find}
-use Rattle.table.proofs.Records.{find-turn, find-ends}
+use Rattle.table.specs.Table.{attributes, firstIn, named, find}
+use Rattle.table.proofs.Records.{first-turn, first-ends}
 use Rattle.table.proofs.finding.find.Statement.{statement}
 use Rattle.table.proofs.finding.find.Tie as tie
 
 -- what is found from here on is what is found from the start
 abbrev Inv-loop : tie.InvT-loop
-Inv-loop table object id at₀ at = (at ≤ length table) × (find (drop at table) object id ≡ find table object id)
+Inv-loop table object id at₀ at = (at ≤ length table) × (firstIn (named object id) (attributes (drop at table)) ≡ find table object id)
 
 abbrev μ-loop : tie.MeasureT-loop
 μ-loop table object id at₀ at = length table - at
 
 loop-holds : tie.Need-loop-holds Inv-loop μ-loop
+unfolding find
 loop-holds c = (omega arith, refl)
 
 add-loop : tie.Need-add-loop Inv-loop μ-loop
@@ -32,8 +33,9 @@ returns : tie.Need-returns Inv-loop μ-loop
 returns c =
     let n = c .before in
     let a = n .before in
+    let l = a .before in
     let y = sym (n .named .ensures) ∙ c .if1 .taken in
-    sym (sym (a .before .before .loop .inv .1) ∙ find-turn _ _ _ (a .before .loop-test .taken) (a .attribute-at .ensures) _ _ true y)
+    sym (sym (l .before .loop .inv .1) ∙ first-turn _ _ _ (l .loop-test .taken) (a .attribute-at .ensures) _ true y)
 
 add-at : tie.Need-add-at Inv-loop μ-loop
 add-at c = search needs
@@ -46,12 +48,13 @@ loop-again c = (
   omega arith,
   let n = c .before in
       let a = n .before in
+      let l = a .before in
       let y = sym (n .named .ensures) ∙ c .if1 .left in
-      sym (find-turn _ _ _ (a .before .loop-test .taken) (a .attribute-at .ensures) _ _ false y) ∙ a .before .before .loop .inv .1,
+      sym (first-turn _ _ _ (l .loop-test .taken) (a .attribute-at .ensures) _ false y) ∙ l .before .loop .inv .1,
 )
 
 returns-2 : tie.Need-returns-2 Inv-loop μ-loop
-returns-2 c = sym (find-ends _ _ (c .loop-test .left) _ _) ∙ c .before .loop .inv .1
+returns-2 c = sym (first-ends _ _ (c .loop-test .left) _) ∙ c .before .loop .inv .1
 
 pub find-spec : {M : Type 1} → statement M
 find-spec =

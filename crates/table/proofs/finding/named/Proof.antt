@@ -1,16 +1,12 @@
-use borrow.Author.Tests.{eq-eqb, ne-eqb}
+use Rattle.laws.proofs.Tests.{tests}
 use Rattle.table.proofs.finding.named.Statement.{statement}
 use Rattle.table.proofs.finding.named.Tie as tie
 
 returns : tie.Need-returns
-returns c =
-    let x = c .before .before .args in
-    simp (ne-eqb (x .a .object) (x .object) (c .if1 .taken))
+returns c = search tests
 
 returns-2 : tie.Need-returns-2
-returns-2 c =
-    let x = c .before .before .before .args in
-    simp (eq-eqb (x .a .object) (x .object) (c .before .if1 .left))
+returns-2 c = search tests
 
 pub named-spec : {M : Type 1} → statement M
 named-spec = tie.close (tie.spec returns returns-2)

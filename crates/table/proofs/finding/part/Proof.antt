@@ -8,8 +8,8 @@ use Rattle.table.specs.Table.{endOf, partOf}
 use Rattle.table.proofs.finding.part.Statement.{statement}
 use Rattle.table.proofs.finding.part.Tie as tie
 
-cast-at : tie.Need-cast-at
-cast-at c = search needs
+cast-start : tie.Need-cast-start
+cast-start c = search needs
 
 end-of-requires : tie.Need-end-of-requires
 end-of-requires c κs = search needs
@@ -20,7 +20,8 @@ slice-aggregate-result c = search needs
 returns : tie.Need-returns
 unfolding partOf
 returns c =
-    let x = c .before .before .before .before .before .args in
+    let e = c .before .before in
+    let x = e .before .before .before .args in
     simp (lt-leb (endOf (x .a)) (length (x .store .now)) (omega arith))
 
 sub-result : tie.Need-sub-result
@@ -44,7 +45,7 @@ pub part-spec : {M : Type 1} → statement M
 part-spec =
     tie.close
     (tie.spec
-    cast-at
+    cast-start
     end-of-requires
     slice-aggregate-result
     returns

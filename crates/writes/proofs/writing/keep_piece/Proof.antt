@@ -1,4 +1,4 @@
-use borrow.Author.Tests.{lt-leb}
+use Rattle.laws.proofs.Tests.{tests}
 use Rattle.octets.proofs.Datas.{places-cut}
 use Rattle.writes.specs.Code.{keptPiece}
 use Rattle.writes.proofs.Storing.{kept-back}
@@ -8,9 +8,7 @@ use Rattle.writes.proofs.writing.keep_piece.Tie as tie
 
 returns : tie.Need-returns
 unfolding keptPiece
-returns c =
-    let a = c .before .before .before .args in
-    simp (lt-leb (a .body .len) 6 (c .if1 .taken))
+returns c = search tests
 
 places-of-requires : tie.Need-places-of-requires
 places-of-requires c κs = search needs
@@ -38,13 +36,13 @@ same-length c = search needs
 
 returns-2 : tie.Need-returns-2
 returns-2 c =
-    let k = c .before .before in
-    let q = k .before .before .before in
-    let p = q .before .before .before in
-    let i = p .before in
-    let a = i .before .before .before .args in
-    let b = places-cut (a .body) (p .places-of .result) (p .places-of .ensures) in
-    kept-back (a .to) (a .number) (a .body) (i .if1 .left) (a .work .now) _ (q .place-of .ensures) _ b (a .total) _ (k .keep .ensures)
+    let keep = c .before .before in
+    let place = keep .before .before .before in
+    let places = place .before .before .before in
+    let few = places .before in
+    let a = few .before .before .before .args in
+    let body = places-cut (a .body) (places .places-of .result) (places .places-of .ensures) in
+    kept-back (a .to) (a .number) (a .body) (few .if1 .left) (a .work .now) _ (place .place-of .ensures) _ body (a .total) _ (keep .keep .ensures)
 
 pub keep-piece-spec : {M : Type 1} → statement M
 keep-piece-spec =

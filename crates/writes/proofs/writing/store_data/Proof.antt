@@ -1,23 +1,14 @@
-use Prim.Native.Nat.{_+_, _-_}
-use mathlib.Core.Path.{ap, _∙_}
-use native.Mathlib.Omega.{arith}
-use lib.ListN.{length, take, drop}
-use borrow.Author.Tests.{lt-leb, le-leb}
-use borrow.Rule.Slice.PartMut.{mid-len}
-use Rattle.octets.specs.Data.{bytesOf}
-use Rattle.octets.proofs.Datas.{places-cut, bytes-counted}
-use Rattle.laws.proofs.Bytes.{copied}
-use Rattle.join.proofs.Parts.{put-mid}
+use Rattle.laws.proofs.Tests.{tests}
+use Rattle.octets.proofs.Datas.{places-cut}
 use Rattle.writes.specs.Code.{storedData}
+use Rattle.writes.proofs.Storing.{data-back}
 use borrow.Author.Needs.{needs}
 use Rattle.writes.proofs.writing.store_data.Statement.{statement}
 use Rattle.writes.proofs.writing.store_data.Tie as tie
 
 returns : tie.Need-returns
 unfolding storedData
-returns c =
-    let a = c .before .before .before .args in
-    simp (lt-leb (a .body .len) 6 (c .if1 .taken))
+returns c = search tests
 
 cast-n : tie.Need-cast-n
 cast-n c = search needs
@@ -30,10 +21,7 @@ add-end c = search needs
 
 returns-2 : tie.Need-returns-2
 unfolding storedData
-returns-2 c =
-    let i = c .before .before .before in
-    let a = i .before .before .before .args in
-    simp (le-leb (a .body .len) 6 (i .if1 .left), lt-leb (a .to .offset + a .body .len) (length (a .store .now)) (c .if2 .taken))
+returns-2 c = search tests
 
 places-of-requires : tie.Need-places-of-requires
 places-of-requires c κs = search needs
@@ -63,23 +51,14 @@ same-length : tie.Need-same-length
 same-length c = search needs
 
 returns-3 : tie.Need-returns-3
-unfolding storedData
 returns-3 c =
-    let k = c .before .before in
-    let p = k .before .before .before .before in
-    let j = p .before in
-    let i = j .before .before .before in
-    let a = i .before .before .before .args in
-    let n = a .body .len in
-    let src = take (n - 0) (p .places-of .result) in
-    let b = places-cut (a .body) (p .places-of .result) (p .places-of .ensures) in
-    let long = bytes-counted (a .body) (i .if1 .left) in
-    let at = a .to .offset in
-    let end = at + n in
-    let room = mid-len at end (a .store .now) (j .if2 .left) in
-    simp (le-leb n 6 (i .if1 .left), le-leb end (length (a .store .now)) (j .if2 .left))
-    (put-mid at end (a .store .now) _ (bytesOf (a .body)) (omega (arith, long))
-    (k .copy .ensures .1 ∙ copied src (take (end - at) (drop at (a .store .now))) (ap length b ∙ omega (arith, long, room)) ∙ b))
+    let copy = c .before .before in
+    let places = copy .before .before .before .before in
+    let room = places .before in
+    let few = room .before .before .before in
+    let a = few .before .before .before .args in
+    let body = places-cut (a .body) (places .places-of .result) (places .places-of .ensures) in
+    data-back (a .to) (a .body) (few .if1 .left) _ body (a .store .now) _ (room .if2 .left) (copy .copy .ensures .1)
 
 pub store-data-spec : {M : Type 1} → statement M
 store-data-spec =

@@ -1,7 +1,5 @@
-use lib.ListN.{length}
-use borrow.Author.Tests.{lt-leb, le-leb}
+use Rattle.laws.proofs.Tests.{tests}
 use Rattle.octets.proofs.Datas.{places-cut}
-use Rattle.table.specs.Table.{endOf}
 use Rattle.writes.specs.Code.{storedJoined, joinedFits}
 use Rattle.writes.proofs.Storing.{joined-back}
 use borrow.Author.Needs.{needs}
@@ -10,9 +8,7 @@ use Rattle.writes.proofs.writing.store_joined.Tie as tie
 
 returns : tie.Need-returns
 unfolding storedJoined joinedFits
-returns c =
-    let a = c .before .before .before .before .args in
-    simp (lt-leb (a .body .len) 6 (c .if1 .taken))
+returns c = search tests
 
 cast-start : tie.Need-cast-start
 cast-start c = search needs
@@ -25,10 +21,7 @@ add-end c = search needs
 
 returns-2 : tie.Need-returns-2
 unfolding storedJoined joinedFits
-returns-2 c =
-    let i = c .before .before .before in
-    let a = i .before .before .before .before .args in
-    simp (le-leb (a .body .len) 6 (i .if1 .left), lt-leb (endOf (a .to)) (length (a .store .now)) (c .if2 .taken))
+returns-2 c = search tests
 
 places-of-requires : tie.Need-places-of-requires
 places-of-requires c κs = search needs
@@ -65,14 +58,14 @@ same-length c = search needs
 
 returns-3 : tie.Need-returns-3
 returns-3 c =
-    let k = c .before .before in
-    let q = k .before .before .before .before in
-    let p = q .before .before in
-    let j = p .before in
-    let i = j .before .before .before in
-    let a = i .before .before .before .before .args in
-    let b = places-cut (a .body) (p .places-of .result) (p .places-of .ensures) in
-    joined-back (a .to) (a .number) (a .body) (i .if1 .left) (a .work .now) _ (q .place-of .ensures) _ b (a .store .now) _ (j .if2 .left) (k .join-into .ensures)
+    let join = c .before .before in
+    let place = join .before .before .before .before in
+    let places = place .before .before in
+    let room = places .before in
+    let few = room .before .before .before in
+    let a = few .before .before .before .before .args in
+    let body = places-cut (a .body) (places .places-of .result) (places .places-of .ensures) in
+    joined-back (a .to) (a .number) (a .body) (few .if1 .left) (a .work .now) _ (place .place-of .ensures) _ body (a .store .now) _ (room .if2 .left) (join .join-into .ensures)
 
 pub store-joined-spec : {M : Type 1} → statement M
 store-joined-spec =
