@@ -7,15 +7,17 @@ use native.Mathlib.Omega.{arith}
 use lib.ListN.{length, take, drop, length-append, length-take, length-drop, List·getD-eq-default}
 use lib.Seq.{take-take, take-at, take-length, drop-length}
 use lib.Dec.{leb}
-use borrow.Author.Tests.{leb-true, leb-false, eq-eqb, ne-eqb, le-leb, lt-ltb, le-ltb}
+use borrow.Author.Tests.{leb-true, leb-false, eqb-true, eq-eqb, ne-eqb, le-leb, lt-ltb, le-ltb}
 use borrow.Rule.Slice.PartMut.{putMid, post-is, mid-len}
 use Rattle.laws.specs.Put.{put}
 use Rattle.laws.proofs.Bytes.{copied}
 use Rattle.laws.proofs.Put.{put-nothing}
-use Rattle.laws.proofs.Tests.{split}
-use Rattle.join.specs.Work.{headSize, dataSize, Joiner, Piece, Work, kept, load, astray, withData, headOf, areaAfter}
+use Rattle.laws.proofs.Tests.{split, halves}
+use Rattle.join.specs.Work.{recordSize, headSize, dataSize, Joiner, simple, Piece, Work, kept, load, astray, last, withData, headOf, areaAfter}
 use Rattle.join.specs.Code.{keepFits, joinFits, joinedFrom}
+use Rattle.join.specs.History.{Fit}
 use Rattle.join.proofs.Keys.{same-key}
+use Rattle.join.proofs.Records.{data-room}
 
 -- what a record holds before a fragment's place, and the fragment's bytes, are the joined bytes that are read off the area
 pub held-part : (j : Joiner) (at number : ℕ) (l body : List ℕ) → j .width * number ≤ dataSize
@@ -57,6 +59,29 @@ keeps work at w number body n h = simp (lt-ltb number 255 n, le-leb (at + headSi
 pub joins : (work at w number body part : ℕ) → at + headSize + w * number ≤ work → part ≡ w * number + body → joinFits work at w number body part ≡ true
 unfolding joinFits
 joins work at w number body part h e = simp (le-leb (at + headSize + w * number) work h, eq-eqb part (w * number + body) e)
+
+-- a fragment that fits, in a record that is inside the area: it can be kept
+pub fit-keeps : (w : ℕ) (p : Piece) → Fit (simple w) p → p .number < 255 → (work at : ℕ) → at + recordSize ≤ work
+    → keepFits work at w (p .number) (length (p .bytes)) ≡ true
+fit-keeps w p f n work at h = keeps work at w (p .number) (length (p .bytes)) n (omega (arith, data-room (simple w) p f))
+
+-- and the last one joined to a part as long as the total
+pub fit-joins : (w : ℕ) (p : Piece) → Fit (simple w) p → last (simple w) p ≡ true → (work at : ℕ) → at + recordSize ≤ work
+    → joinFits work at w (p .number) (length (p .bytes)) (p .total) ≡ true
+fit-joins w p f t work at h =
+    let end = leb-true (p .total) (w * p .number + w) t in
+    joins work at w (p .number) (length (p .bytes)) (p .total) (omega (arith, f .shaped .inside, f .room)) (omega (arith, f .shaped .inside, f .shaped .fit))
+
+-- what is joined fills its part
+pub joins-whole : (work : List ℕ) (at w number part : ℕ) (body : List ℕ) → joinFits (length work) at w number (length body) part ≡ true
+    → length (joinedFrom work at w number body) ≡ part
+unfolding joinFits
+joins-whole work at w number part body t =
+    let held = at + headSize + w * number in
+    let f = halves (leb held (length work)) t in
+    let room = leb-true held (length work) (f .0) in
+    let whole = eqb-true part (w * number + length body) (f .1) in
+    simp (length-append, length-take, length-drop) (omega arith)
 
 -- ---- check 14
 

@@ -1,26 +1,24 @@
 -- What is stored and kept is what 01 says, of what is ready.
-use Prim.Native.Nat.{ℕ, _+_, _-_, _*_, _<_, _≤_}
+use Prim.Native.Nat.{ℕ, _+_, _-_, _<_, _≤_}
 use mathlib.Core.Path.{_≡_, refl, ap, _∙_}
 use mathlib.Core.Bool.{true, cond}
 use mathlib.Core.List.{List, [], _∷_, _++_}
 use native.Mathlib.Omega.{arith}
-use lib.ListN.{length, take, drop, length-append, length-take, length-drop}
-use lib.Dec.{leb}
-use borrow.Author.Tests.{leb-true, le-leb, eqb-true}
+use lib.ListN.{length, take, drop}
+use borrow.Author.Tests.{le-leb}
 use borrow.Rule.Slice.PartMut.{putMid, put-same, mid-len}
 use Rattle.laws.specs.Put.{put}
 use Rattle.laws.proofs.Bytes.{copied}
-use Rattle.laws.proofs.Tests.{split, halves}
+use Rattle.laws.proofs.Tests.{split}
 use Rattle.octets.specs.declared.Data.{Data}
 use Rattle.octets.specs.Data.{mostData, bytesOf}
 use Rattle.octets.proofs.Datas.{bytes-counted}
 use Rattle.table.specs.declared.Attribute.{Attribute}
 use Rattle.table.specs.Table.{endOf}
-use Rattle.join.specs.Work.{headSize, base, last, kept, areaAfter}
+use Rattle.join.specs.Work.{recordSize, base, last, kept, areaAfter}
 use Rattle.join.specs.Code.{keepFits, joinFits, joinedFrom}
-use Rattle.join.proofs.Parts.{keeps, joins, put-mid}
+use Rattle.join.proofs.Parts.{fit-keeps, fit-joins, joins-whole, put-mid}
 use Rattle.join.proofs.Places.{base-inside}
-use Rattle.join.proofs.Records.{data-room}
 use Rattle.guest.specs.Checks.{fragmentBytes, joiner, pieceOf}
 use Rattle.writes.specs.Code.{WriteReady, KeepReady, storedData, joinedBytes, joinedFits, storedJoined, keptPiece}
 
@@ -43,13 +41,7 @@ data-back a b h body be store m k e =
 -- the joined bytes are as long as the part that the joiner puts them into
 joined-long : (a : Attribute) (number : ℕ) (b : Data) (work : List ℕ) → b .len ≤ mostData
     → joinFits (length work) (base (a .object)) fragmentBytes number (b .len) (a .len) ≡ true → length (joinedBytes a number b work) ≡ a .len
-unfolding joinFits
-joined-long a number b work h t =
-    let held = base (a .object) + headSize + fragmentBytes * number in
-    let f = halves (leb held (length work)) t in
-    let room = leb-true held (length work) (f .0) in
-    let whole = eqb-true (a .len) (fragmentBytes * number + b .len) (f .1) in
-    simp (length-append, length-take, length-drop) (omega (arith, bytes-counted b h))
+joined-long a number b work h t = joins-whole work (base (a .object)) fragmentBytes number (a .len) (bytesOf b) (rw (bytes-counted b h) t)
 
 -- what the joiner leaves, given a fragment's bytes and the place of its object's record
 module _ (a : Attribute) (number : ℕ) (b : Data) (h : b .len ≤ mostData) (work : List ℕ)
@@ -87,25 +79,21 @@ data-stored a b store r =
     simp (le-leb (b .len) mostData (r .bytes), le-leb (a .offset + b .len) (length store) (omega (arith, r .inside, r .whole)))
 
 module _ (a : Attribute) (number total : ℕ) (b : Data) (work : List ℕ) (r : KeepReady a number total b (length work)) where
-  -- what a fragment holds ends inside its record, which is inside the area
-  room : base (a .object) + headSize + fragmentBytes * number + b .len ≤ length work
-  room = omega (arith, data-room joiner (pieceOf (a .id) number total b) (r .fits), bytes-counted b (r .bytes), base-inside (a .object) (r .object), r .area)
+  -- its object's record is inside the area
+  room : base (a .object) + recordSize ≤ length work
+  room = rw (r .area) (base-inside (a .object) (r .object))
 
   pub piece-kept : keptPiece a number total b work ≡ areaAfter joiner (base (a .object)) (pieceOf (a .id) number total b) kept work
   unfolding keptPiece
   piece-kept =
       let next : number < 255 = omega (arith, r .fits .shaped .inside, r .fits .room) in
-      simp (le-leb (b .len) mostData (r .bytes), keeps (length work) (base (a .object)) fragmentBytes number (b .len) next room)
+      let fits = fit-keeps fragmentBytes (pieceOf (a .id) number total b) (r .fits) next (length work) (base (a .object)) room in
+      simp (le-leb (b .len) mostData (r .bytes), ← bytes-counted b (r .bytes), fits)
 
   -- a last fragment's message is as long as the attribute
-  ends : last joiner (pieceOf (a .id) number total b) ≡ true → a .len ≡ fragmentBytes * number + b .len
-  ends t =
-      let most = leb-true total (fragmentBytes * number + fragmentBytes) t in
-      omega (arith, r .whole, r .fits .shaped .inside, r .fits .shaped .fit, bytes-counted b (r .bytes))
-
   pub message-stored : (store : List ℕ) → endOf a ≤ length store → last joiner (pieceOf (a .id) number total b) ≡ true
       → storedJoined a number b work store ≡ put store (a .offset) (joinedBytes a number b work)
   unfolding storedJoined joinedFits
   message-stored store h t =
-      let fits = joins (length work) (base (a .object)) fragmentBytes number (b .len) (a .len) (omega (arith, room)) (ends t) in
-      simp (le-leb (b .len) mostData (r .bytes), le-leb (endOf a) (length store) h, fits)
+      let fits = fit-joins fragmentBytes (pieceOf (a .id) number total b) (r .fits) t (length work) (base (a .object)) room in
+      simp (le-leb (b .len) mostData (r .bytes), le-leb (endOf a) (length store) h, ← bytes-counted b (r .bytes), ← r .whole, fits)
