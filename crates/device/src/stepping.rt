@@ -16,7 +16,7 @@ pub fn step(
     ensures { λ r. ⌜ outcome (r .number) (r .count) (areas (now (store .exit)) (now (work .exit))) (now (out .exit))
         ≡ stepOf (call (now (frame .entry)) own (now (table .entry)) (areas (now (store .entry)) (now (work .entry))) (now (out .entry))) ⌝ }
 {
-    if judge::misfit(frame, own, table, store.len(), work.len(), out.len()) {
+    if judge::misfit(own, table, store.len(), work.len(), out.len(), frame) {
         return Reply {
             number: 1,
             count: 0,
@@ -30,10 +30,10 @@ pub fn step(
         };
     }
     let h = codec::header_of(frame);
-    let number = judge::route_number(h, own);
+    let number = judge::route_number(own, h);
     if number != 0 {
         return Reply { number, count: 0 };
     }
-    let plan = judge::request_plan(frame, h, table);
+    let plan = judge::request_plan(table, h, frame);
     apply(plan, own as u8, h, store, work, out)
 }

@@ -6,12 +6,12 @@ ghost use Rattle.judge.specs.Code.{routeChecks};
 
 // Check 1. Own address is 32 bits wide, so that 265 is refused and not taken for 9.
 pub fn misfit(
-    frame: &[u8],
     own: u32,
     table: &[u8],
     store_len: usize,
     work_len: usize,
     out_len: usize,
+    frame: &[u8],
 ) -> bool
     ensures { λ r. ⌜ r ≡ Checks·misfit (settingBy own (now (table .entry)) «store_len» «work_len» «out_len») (now (frame .entry)) ⌝ }
 {
@@ -34,7 +34,7 @@ pub fn misfit(
 }
 
 // The first of checks 3 to 6 that holds; 0 where none does.
-pub fn route_number(h: codec::Header, own: u32) -> u8
+pub fn route_number(own: u32, h: codec::Header) -> u8
     ensures { λ r. ⌜ r ≡ firstOf (routeChecks own h) ⌝ }
 {
     if h.rtr == 1 {

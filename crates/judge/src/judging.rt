@@ -95,7 +95,7 @@ fn read_plan(table: &[u8], h: Header) -> Plan
 }
 
 // Checks 7 to 13: what a Request with this header asks for. Of one that passes checks 1 to 6 this is what 01's list gives (`request-planned`).
-pub fn request_plan(frame: &[u8], h: Header, table: &[u8]) -> Plan
+pub fn request_plan(table: &[u8], h: Header, frame: &[u8]) -> Plan
     ensures { λ r. ⌜ r ≡ planByService (now (table .entry)) h (now (frame .entry)) ⌝ }
 {
     let object = h.object;
