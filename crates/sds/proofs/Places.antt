@@ -1,12 +1,12 @@
 -- The 16 bytes of a message, place by place; and what reading leaves there.
 use Prim.Native.Nat.{ℕ}
 use mathlib.Core.Path.{_≡_, sym, ap, _∙_}
-use mathlib.Core.Bool.{true, cond, and-eq-true-iff}
+use mathlib.Core.Bool.{true, and-eq-true-iff}
 use mathlib.Core.List.{List, [], _∷_, _++_}
 use native.Mathlib.Omega.{arith}
 use lib.ListN.{length, drop, replicate, length-drop, drop-of-length-le}
 use lib.Dec.{eqb}
-use borrow.Author.Tests.{eqb-true, eq-eqb, ne-eqb}
+use borrow.Author.Tests.{eqb-true, eqb-false, eq-eqb, ne-eqb}
 use Rattle.laws.specs.Bytes.{byteAt}
 use Rattle.laws.specs.Checks.{firstOf}
 use Rattle.laws.proofs.Tests.{split}
@@ -17,10 +17,10 @@ use Rattle.codec.specs.declared.Header.{Header}
 use Rattle.codec.specs.declared.Subject.{Subject}
 use Rattle.codec.specs.declared.Answer.the-variants.{Got, Refused}
 use Rattle.codec.specs.Fields.{headerOf}
-use Rattle.codec.specs.Reading.{readChecks, subjectOf, messageOf, readOf}
+use Rattle.codec.specs.Reading.{readChecks, subjectOf, shortOf, messageOf, readOf}
 use Rattle.codec.specs.Code.{payloadData, unprefixed}
 use Rattle.codec.proofs.Long.{payload-plain, payload-fragment}
-use Rattle.sds.specs.Border.{messageSize, longBytes, shortSubject, messageBytes, Long, subjectAt, dataAt, messageAt, bordered, borderReadNumber, borderRead}
+use Rattle.sds.specs.Border.{messageSize, longBytes, shortSubject, messageBytes, longMessage, recordMessage, putMessage, subjectAt, dataAt, messageAt, bordered, borderReadNumber, borderRead}
 
 -- sixteen bytes, one by one, or the first four of them
 module _ (l : List ℕ) (n : length l ≡ 16) where
@@ -56,45 +56,54 @@ module _ (l : List ℕ) (n : length l ≡ 16) where
       let kind = eqb-true (byteAt l 0) 2 (simp (f, g) at b) in
       simp (f, g) (ap (λ (j : ℕ). j ∷ places 15 1 l) (sym kind) ∙ all-places)))
 
--- ---- the message of a record that is read, put place by place
+-- ---- a record's message, put place by place: m is the buffer before, x afterwards
 
--- m is the buffer before, x afterwards
-module _ (r m x : List ℕ) (n : length m ≡ messageSize) where
-  abbrev Puts : List ℕ → Type 0
-  Puts l = x ≡ cond (eqb (length m) messageSize) l m
-
-  whole : (l : List ℕ) → Puts l → x ≡ l
-  whole l e = e ∙ simp (eq-eqb (length m) messageSize n)
-
+module _ (r m x : List ℕ) where
   pub short-put : (h : Header) → h ≡ headerOf r → h .dlc ≡ 0 → (u : Subject) → u ≡ shortSubject (h .dir) (h .address) (h .service)
-      → (d : Data) → d ≡ dataOf [] → Puts (longBytes 0 u 0 0 d) → x ≡ messageBytes (messageOf r)
-  unfolding messageOf messageBytes
-  short-put h he z u ue d de e = whole (longBytes 0 u 0 0 d) e ∙ rw (ue, de) (simp (← he, eq-eqb (h .dlc) 0 z))
+      → (d : Data) → d ≡ dataOf [] → x ≡ putMessage (longBytes 0 u 0 0 d) m → x ≡ putMessage (recordMessage r) m
+  unfolding recordMessage
+  short-put h he z u ue d de e = e ∙ rw (ue, de) (simp (← he, eq-eqb (h .dlc) 0 z))
 
-  module _ (h : Header) (l : Long r h) (p : Data) (pe : p ≡ payloadData r) (u : Subject) (ue : u ≡ subjectOf h) where
-    in-long-form : headerOf r .dlc ≡ 0 → ⊥
-    in-long-form z = l .long (ap (λ (k : Header). k .dlc) (l .header) ∙ z)
+  pub long-put : (h : Header) → h ≡ headerOf r → (h .dlc ≡ 0 → ⊥) → x ≡ putMessage (longMessage h (payloadData r)) m → x ≡ putMessage (recordMessage r) m
+  unfolding recordMessage
+  long-put h he z e = e ∙ simp (← he, ne-eqb (h .dlc) 0 z)
 
-    flag : h .flag ≡ headerOf r .flag
-    flag = ap (λ (k : Header). k .flag) (l .header)
+  module _ (h : Header) (p : Data) (pe : p ≡ payloadData r) (u : Subject) (ue : u ≡ subjectOf h) where
+    pub plain-put : (h .flag ≡ 1 → ⊥) → x ≡ putMessage (longBytes 1 u 0 0 p) m → x ≡ putMessage (longMessage h (payloadData r)) m
+    unfolding longMessage
+    plain-put f e = e ∙ rw (ue, pe) (simp (ne-eqb (h .flag) 1 f))
 
-    pub plain-put : (h .flag ≡ 1 → ⊥) → Puts (longBytes 1 u 0 0 p) → x ≡ messageBytes (messageOf r)
-    unfolding messageBytes
-    plain-put f e = whole (longBytes 1 u 0 0 p) e ∙ rw (ue, pe, l .header, payload-plain r (l .unrefused) in-long-form (λ q. f (flag ∙ q)))
+    pub fragment-put : h .flag ≡ 1 → (b : Data) → b ≡ unprefixed p → x ≡ putMessage (longBytes 2 u (p .b0) (p .b1) b) m
+        → x ≡ putMessage (longMessage h (payloadData r)) m
+    unfolding longMessage
+    fragment-put f b be e = e ∙ rw (be, ue, pe) (simp (eq-eqb (h .flag) 1 f))
 
-    pub fragment-put : h .flag ≡ 1 → (b : Data) → b ≡ unprefixed p → Puts (longBytes 2 u (p .b0) (p .b1) b) → x ≡ messageBytes (messageOf r)
-    unfolding messageBytes
-    fragment-put f b be e = whole (longBytes 2 u (p .b0) (p .b1) b) e ∙ rw (be, ue, pe, l .header, payload-fragment r (l .unrefused) in-long-form (sym flag ∙ f))
+-- the message of a short form
+message-short : (r : List ℕ) → headerOf r .dlc ≡ 0 → messageOf r ≡ shortOf (headerOf r)
+unfolding messageOf
+message-short r z = simp (eq-eqb (headerOf r .dlc) 0 z)
+
+-- of a record that is read, what is put is its message's bytes
+pub put-is-message : (r : List ℕ) → firstOf (readChecks r) ≡ 0 → recordMessage r ≡ messageBytes (messageOf r)
+unfolding recordMessage longMessage messageBytes
+put-is-message r e =
+    split (eqb (headerOf r .dlc) 0)
+    (λ t. rw (message-short r (eqb-true (headerOf r .dlc) 0 t)) (simp t))
+    (λ t.
+    let long = eqb-false (headerOf r .dlc) 0 t in
+    split (eqb (headerOf r .flag) 1)
+    (λ f. rw (payload-fragment r e long (eqb-true (headerOf r .flag) 1 f)) (simp (t, f)))
+    (λ f. rw (payload-plain r e long (eqb-false (headerOf r .flag) 1 f)) (simp (t, f))))
 
 -- ---- what reading answers and leaves
 
 module _ (r l : List ℕ) (n : length l ≡ messageSize) (k : ℕ) (e : k ≡ firstOf (readChecks r)) where
-  pub read-done : k ≡ 0 → (x : List ℕ) → x ≡ messageBytes (messageOf r) → (0 ≡ borderReadNumber r l) × (x ≡ borderRead r l)
+  pub read-done : k ≡ 0 → (x : List ℕ) → x ≡ putMessage (recordMessage r) l → (0 ≡ borderReadNumber r l) × (x ≡ borderRead r l)
   unfolding readOf borderReadNumber borderRead
   read-done z x f =
       let s = eq-eqb (length l) messageSize n in
       let g : readOf r ≡ Got (messageOf r) = simp (eq-eqb (firstOf (readChecks r)) 0 (sym e ∙ z)) in
-      (simp (s, g), f ∙ simp (s, g))
+      (simp (s, g), f ∙ simp (s, g) (put-is-message r (sym e ∙ z)))
 
   pub read-refused : (k ≡ 0 → ⊥) → (k ≡ borderReadNumber r l) × (l ≡ borderRead r l)
   unfolding readOf borderReadNumber borderRead

@@ -1,6 +1,5 @@
 -- What C sees: a message as 16 bytes, and what each entry point answers.
 use Prim.Native.Nat.{ℕ, _+_, _*_}
-use mathlib.Core.Path.{_≡_}
 use mathlib.Core.Bool.{Bool, cond, not, _&&_, _||_}
 use mathlib.Core.List.{List, [], _∷_}
 use lib.ListN.{length, drop}
@@ -17,7 +16,8 @@ use Rattle.codec.specs.declared.Answer.{Answer}
 use Rattle.codec.specs.declared.Answer.the-variants.{Got, Refused}
 use Rattle.codec.specs.Names.{frameSize}
 use Rattle.codec.specs.Fields.{headerOf}
-use Rattle.codec.specs.Reading.{readChecks, readOf, numberOf}
+use Rattle.codec.specs.Reading.{subjectOf, readOf, numberOf}
+use Rattle.codec.specs.Code.{payloadData, unprefixed}
 use Rattle.codec.specs.Writing.{carried, imageOf}
 use Rattle.table.specs.Descriptor.{descriptorSize}
 use Rattle.table.specs.Table.{lengthsFit, wellFormed}
@@ -41,6 +41,22 @@ unfoldable pub messageBytes : Message → List ℕ
 messageBytes (Short dir address service) = longBytes 0 (shortSubject dir address service) 0 0 (dataOf [])
 messageBytes (Plain u b) = longBytes 1 u 0 0 b
 messageBytes (Fragment u number total b) = longBytes 2 u number total b
+
+-- what the code puts of a header and of what stands behind the ID of its record: flag clear, or number and total in front
+unfoldable pub longMessage : Header → Data → List ℕ
+longMessage h p =
+    cond (eqb (h .flag) 1) (longBytes 2 (subjectOf h) (p .b0) (p .b1) (unprefixed p)) (longBytes 1 (subjectOf h) 0 0 p)
+
+-- and of any record; of one that is read these are its message's bytes (`put-is-message`)
+unfoldable pub recordMessage : List ℕ → List ℕ
+recordMessage r =
+    cond (eqb (headerOf r .dlc) 0)
+    (longBytes 0 (shortSubject (headerOf r .dir) (headerOf r .address) (headerOf r .service)) 0 0 (dataOf []))
+    (longMessage (headerOf r) (payloadData r))
+
+-- the buffer after a message is put: one of another length stays
+abbrev pub putMessage : List ℕ → List ℕ → List ℕ
+putMessage l m = cond (eqb (length m) messageSize) l m
 
 -- the same places, read
 unfoldable pub subjectAt : List ℕ → Subject
@@ -90,12 +106,6 @@ answeredIn (Refused n) l = l
 
 unfoldable pub borderRead : List ℕ → List ℕ → List ℕ
 borderRead r l = cond (eqb (length l) messageSize) (answeredIn (readOf r) l) l
-
--- a record that is read, with its header, in long form: what the code knows when it puts such a message
-pub record Long (r : List ℕ) (h : Header) : Type 0 where
-  pub unrefused : firstOf (readChecks r) ≡ 0
-  pub header : h ≡ headerOf r
-  pub long : h .dlc ≡ 0 → ⊥
 
 -- "a message buffer of another length is refused with 1, like a record's"
 abbrev pub missized : List ℕ → List ℕ → Bool

@@ -4,9 +4,8 @@ ghost use mathlib.Core.Bool.{cond, _&&_};
 ghost use lib.Dec.{eqb};
 ghost use lib.ListN.{length, drop};
 ghost use Rattle.laws.specs.Bytes.{byteAt, zeros};
-ghost use Rattle.laws.specs.Checks.{firstOf};
-ghost use Rattle.codec.specs.Reading.{readChecks, messageOf};
-ghost use Rattle.sds.specs.Border.{messageSize, messageBytes, Long, longBytes, shortSubject, subjectAt, dataAt, messageAt, bordered as Border·bordered};
+ghost use Rattle.codec.specs.Code.{payloadData};
+ghost use Rattle.sds.specs.Border.{longMessage, recordMessage, putMessage, longBytes, shortSubject, subjectAt, dataAt, messageAt, bordered as Border·bordered};
 use codec::Header;
 use codec::Message;
 use codec::Subject;
@@ -18,7 +17,7 @@ pub(crate) const MESSAGE: usize = 16;
 
 // Puts the 16 bytes of a message, place by place. A buffer of another length stays.
 fn put_places(kind: u8, u: Subject, number: u8, total: u8, b: Data, message: &mut [u8])
-    ensures { λ _. ⌜ now (message .exit) ≡ cond (eqb (length (now (message .entry))) messageSize) (longBytes kind u number total b) (now (message .entry)) ⌝ }
+    ensures { λ _. ⌜ now (message .exit) ≡ putMessage (longBytes kind u number total b) (now (message .entry)) ⌝ }
 {
     if message.len() != MESSAGE {
         return;
@@ -55,10 +54,9 @@ fn short_subject(h: Header) -> Subject
     }
 }
 
-// Puts the message of a record in long form that is read.
+// Puts the message of a record in long form with this header.
 fn put_long_message(frame: &[u8], h: Header, message: &mut [u8])
-    requires { ⌜ Long (now frame) h × (length (now message) ≡ messageSize) ⌝ }
-    ensures { λ _. ⌜ now (message .exit) ≡ messageBytes (messageOf (now (frame .entry))) ⌝ }
+    ensures { λ _. ⌜ now (message .exit) ≡ putMessage (longMessage h (payloadData (now (frame .entry)))) (now (message .entry)) ⌝ }
 {
     let p = codec::payload_of(frame);
     if h.flag != 1 {
@@ -75,10 +73,9 @@ fn put_long_message(frame: &[u8], h: Header, message: &mut [u8])
     );
 }
 
-// Puts the message of a record that is read.
+// Puts the message of a record. Nothing is tested but the buffer's length: of a record that the codec refuses it is no message.
 pub(crate) fn put_message(frame: &[u8], message: &mut [u8])
-    requires { ⌜ (firstOf (readChecks (now frame)) ≡ 0) × (length (now message) ≡ messageSize) ⌝ }
-    ensures { λ _. ⌜ now (message .exit) ≡ messageBytes (messageOf (now (frame .entry))) ⌝ }
+    ensures { λ _. ⌜ now (message .exit) ≡ putMessage (recordMessage (now (frame .entry))) (now (message .entry)) ⌝ }
 {
     let h = codec::header_of(frame);
     if h.dlc == 0 {

@@ -1,4 +1,3 @@
-use mathlib.Core.Path.{sym, _∙_}
 use Rattle.laws.proofs.Tests.{tests}
 use Rattle.sds.specs.Border.{borderReadNumber, borderRead}
 use Rattle.sds.proofs.Places.{read-done, read-refused}
@@ -22,10 +21,7 @@ returns-2 c =
     read-refused _ _ (refusal .before .if1 .left) _ (refusal .refusal-of .ensures) (c .if2 .taken)
 
 put-message-requires : tie.Need-put-message-requires
-put-message-requires c κs =
-    let i = c .before in
-    let refusal = i .before in
-    (sym (refusal .refusal-of .ensures) ∙ i .if2 .left, refusal .before .if1 .left)
+put-message-requires c κs = search needs
 
 same-length : tie.Need-same-length
 same-length c = search needs

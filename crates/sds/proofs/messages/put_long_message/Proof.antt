@@ -23,7 +23,7 @@ returns c =
     let payload = flag .before .before in
     let s = payload .before .before .before in
     let a = s .args in
-    plain-put (a .frame .now) (a .message .now) _ (s .pre .1) (a .h) (s .pre .0) _ (payload .payload-of .ensures) _ (subject .subject-of .ensures) (flag .if1 .taken)
+    plain-put (a .frame .now) (a .message .now) _ (a .h) _ (payload .payload-of .ensures) _ (subject .subject-of .ensures) (flag .if1 .taken)
     (done .put-places .ensures)
 
 subject-of-requires-2 : tie.Need-subject-of-requires-2
@@ -47,7 +47,7 @@ returns-2 c =
     let payload = flag .before .before in
     let s = payload .before .before .before in
     let a = s .args in
-    fragment-put (a .frame .now) (a .message .now) _ (s .pre .1) (a .h) (s .pre .0) _ (payload .payload-of .ensures) _ (subject .subject-of2 .ensures) (flag .if1 .left)
+    fragment-put (a .frame .now) (a .message .now) _ (a .h) _ (payload .payload-of .ensures) _ (subject .subject-of2 .ensures) (flag .if1 .left)
     _ (body .unprefixed .ensures) (done .put-places2 .ensures)
 
 pub put-long-message-spec : {M : Type 1} → statement M

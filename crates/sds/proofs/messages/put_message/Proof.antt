@@ -1,4 +1,4 @@
-use Rattle.sds.proofs.Places.{short-put}
+use Rattle.sds.proofs.Places.{short-put, long-put}
 use borrow.Author.Needs.{needs}
 use Rattle.sds.proofs.messages.put_message.Statement.{statement}
 use Rattle.sds.proofs.messages.put_message.Tie as tie
@@ -27,21 +27,22 @@ returns c =
     let header = dlc .before .before in
     let s = header .before .before .before in
     let a = s .args in
-    short-put (a .frame .now) (a .message .now) _ (s .pre .1) _ (header .header-of .ensures) (dlc .if1 .taken) _ (subject .short-subject .ensures) _ (body .no-data .ensures)
+    short-put (a .frame .now) (a .message .now) _ _ (header .header-of .ensures) (dlc .if1 .taken) _ (subject .short-subject .ensures) _ (body .no-data .ensures)
     (done .put-places .ensures)
 
 put-long-message-requires : tie.Need-put-long-message-requires
-put-long-message-requires c κs =
-    let dlc = c .before in
-    let header = dlc .before .before in
-    let s = header .before .before .before in
-    (record { unrefused = s .pre .0; header = header .header-of .ensures; long = dlc .if1 .left }, s .pre .1)
+put-long-message-requires c κs = search needs
 
 same-length-2 : tie.Need-same-length-2
 same-length-2 c = search needs
 
 returns-2 : tie.Need-returns-2
-returns-2 c = c .before .before .put-long-message .ensures
+returns-2 c =
+    let done = c .before .before in
+    let dlc = done .before .before in
+    let header = dlc .before .before in
+    let a = header .before .before .before .args in
+    long-put (a .frame .now) (a .message .now) _ _ (header .header-of .ensures) (dlc .if1 .left) (done .put-long-message .ensures)
 
 pub put-message-spec : {M : Type 1} → statement M
 put-message-spec =
