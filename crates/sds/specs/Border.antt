@@ -58,7 +58,7 @@ recordMessage r =
 abbrev pub putMessage : List ℕ → List ℕ → List ℕ
 putMessage l m = cond (eqb (length m) messageSize) l m
 
--- the same places, read
+-- the places of a message, read
 unfoldable pub subjectAt : List ℕ → Subject
 subjectAt l = record {
   dir = byteAt l 1;
