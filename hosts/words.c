@@ -2,9 +2,15 @@
 #include "words.h"
 
 /* 000, figure 3.4 */
-static const char *const short_services[8] = {
-    "Change of State OFF", "Change of State ON", "Change of State OFF ACK", "Change of State ON ACK",
-    "Write OFF State",     "Write ON State",     "Write OFF State ACK",     "Write ON State ACK",
+static const char *const short_services[] = {
+    [SDS_SHORT_CHANGE_OFF] = "Change of State OFF",
+    [SDS_SHORT_CHANGE_ON] = "Change of State ON",
+    [SDS_SHORT_CHANGE_OFF_ACK] = "Change of State OFF ACK",
+    [SDS_SHORT_CHANGE_ON_ACK] = "Change of State ON ACK",
+    [SDS_SHORT_WRITE_OFF] = "Write OFF State",
+    [SDS_SHORT_WRITE_ON] = "Write ON State",
+    [SDS_SHORT_WRITE_OFF_ACK] = "Write OFF State ACK",
+    [SDS_SHORT_WRITE_ON_ACK] = "Write ON State ACK",
 };
 
 /* 000, figure 3.6, as far as the codec reads it; and what the ID of such a message names */
@@ -28,15 +34,16 @@ static const char *const responses[] = {
     [SDS_WAIT] = "Wait",
 };
 
-static const char bad_frame[] = "RTR, a DLC over 8, or address 126 or 127";
+#define BAD_FRAME "RTR, a DLC over 8, or address 126 or 127"
+#define UNREAD_SERVICE "DLC 1, or DLC 2 up with a service of 0 to 3"
 
 /* why a device refuses: sds.h, enum sds_number */
 static const char *const refusals[] = {
     [SDS_BAD_LENGTH] = "a length, or the own address, is out of its range",
     [SDS_BAD_TABLE] = "the table is not well formed",
-    [SDS_BAD_FRAME] = bad_frame,
+    [SDS_BAD_FRAME] = BAD_FRAME,
     [SDS_NOT_ADDRESSED] = "sent by a guest, or to another address",
-    [SDS_BAD_SERVICE] = "the short form (DLC 0), DLC 1, or a service of 0 to 3",
+    [SDS_BAD_SERVICE] = UNREAD_SERVICE "; a short form that is no Write ON or OFF, or that object 0's first network record does not take",
     [SDS_NOT_REQUEST] = "not a Request",
     [SDS_ACTION_OR_EVENT] = "Action or Event",
     [SDS_BAD_FORM] = "a Read with the fragment flag or with data; a fragment of a Write too short for number and total",
@@ -50,8 +57,8 @@ static const char *const refusals[] = {
 
 /* why a record of the right length is not read, by whoever it is: sds.h, sds_read */
 static const char *const unread[] = {
-    [SDS_BAD_FRAME] = bad_frame,
-    [SDS_BAD_SERVICE] = "DLC 1, or DLC 2 up with a service of 0 to 3",
+    [SDS_BAD_FRAME] = BAD_FRAME,
+    [SDS_BAD_SERVICE] = UNREAD_SERVICE,
     [SDS_BAD_FORM] = "the fragment flag with DLC 2 or 3, too short for number and total",
 };
 

@@ -1,9 +1,9 @@
 /*
  * sds.h: a guest of the Smart Distributed System (SDS) application layer.
  *
- * The device serves Read and Write, whole and in fragments, of the attributes that a table names. It has no memory of its own: all that it
- * knows stands in buffers that you lend it for the time of a call. There is no set-up call, no heap and no state besides those buffers, so one
- * program can serve as many devices as it has buffers for.
+ * The device serves Read and Write, whole and in fragments, of the attributes that a table names, and the short Writes ON and OFF of one of
+ * them. It has no memory of its own: all that it knows stands in buffers that you lend it for the time of a call. There is no set-up call, no
+ * heap and no state besides those buffers, so one program can serve as many devices as it has buffers for.
  *
  *     static const uint8_t table[] = {3, 10, 3, 2, 0, 0, 0, 0};    object 3, attribute 10: two bytes, may be read and written
  *     static uint8_t store[2], work[SDS_WORK], out[SDS_OUT];       zeros: work must begin so
@@ -27,6 +27,10 @@
  * A table is records of struct sds_attribute, up to SDS_ATTRIBUTES of them; none is legal. It is well formed if each field is in its range,
  * object and ID rise from record to record, the first offset is 0 and each next one is the end of the record before, the last end is not
  * beyond the store, and a network record is as long as its descriptor says. sds_table_check tells.
+ *
+ * A short Write has DLC 0 and so names no attribute. It is for the first network record of object 0, in the order of the table: if that is a
+ * single Boolean in one byte (descriptor 0100 or 0120 hex, whatever the upper two bits are) and may be written, its byte becomes 1 (ON) or
+ * 0 (OFF), and one frame answers, the acknowledge of that Write in the short form. If it is not, or there is none, the short Write is refused.
  *
  * What you owe: buffers that do not overlap, each as long as you say; a null pointer only with a length of 0. Nothing else: every content and
  * every length gets an answer, and every call ends.
@@ -58,7 +62,7 @@ extern "C" {
 #define SDS_COUNT(reply) ((reply) >> 8)
 
 /*
- * The number of a reply. The first whose condition holds is given.
+ * The number of a reply. The first whose condition holds is given; 6 to 14 do not apply to the short form.
  *
  * 1 to 6 alter nothing at all. 7 to 13 put one error frame at the front of the output and alter nothing else. 14 does that too, and drops what
  * was joined so far for that object. With 0 there are 0 to SDS_FRAMES frames; the output beyond them stays as it was.
@@ -70,7 +74,8 @@ enum sds_number {
     SDS_BAD_TABLE = 2,          /* the table is not well formed */
     SDS_BAD_FRAME = 3,          /* RTR, a DLC over 8, or an address over SDS_ADDRESS_MOST */
     SDS_NOT_ADDRESSED = 4,      /* sent by a guest, or to another address */
-    SDS_BAD_SERVICE = 5,        /* DLC 0, which is the short form, or 1, which is none; or a service of 0 to 3 */
+    SDS_BAD_SERVICE = 5,        /* DLC 1, or DLC 2 up with a service of 0 to 3; of the short form, which is DLC 0, the six services besides
+                                   Write ON and OFF, and these two where object 0 has no such record as is said above */
     SDS_NOT_REQUEST = 6,        /* not a Request */
     SDS_ACTION_OR_EVENT = 7,    /* Action or Event */
     SDS_BAD_FORM = 8,           /* a Read with the fragment flag or with data; a fragment of a Write too short for number and total */
@@ -84,7 +89,8 @@ enum sds_number {
 
 /*
  * One frame. Gives a reply, whose frames stand at the front of `out`, SDS_RECORD bytes each, in the order in which they are to be sent. Writes
- * alter `store`, fragments of Writes alter `work`, and nothing alters `record` and `table`.
+ * that are served alter `store`, of it the bytes of their attribute, and one in fragments with its last. Fragments of Writes alter `work`, and no
+ * other frame does: a short Write leaves what is half joined for object 0 as it is. Nothing alters `record` and `table`.
  * `address` is the device's own, and 32 bits wide so that 265 is refused and not taken for 9.
  */
 uint32_t sds_step(const uint8_t *record, uint64_t record_len, uint32_t address,
@@ -135,7 +141,7 @@ struct sds_message {
     uint8_t kind;          /* enum sds_kind */
     uint8_t from_guest;    /* Dir/Pri: 0 where the address is that of the receiver, 1 where it is that of the sender */
     uint8_t address;
-    uint8_t service;       /* enum sds_service, but in the short form 0 to 7, with other meanings */
+    uint8_t service;       /* enum sds_service, but in the short form enum sds_short_service */
     uint8_t response;      /* enum sds_response */
     uint8_t object;
     uint8_t id;            /* of the attribute, action or event */
@@ -146,6 +152,16 @@ struct sds_message {
 };
 enum sds_kind { SDS_KIND_SHORT = 0, SDS_KIND_WHOLE = 1, SDS_KIND_FRAGMENT = 2 };
 enum sds_service { SDS_SERVICE_WRITE = 4, SDS_SERVICE_READ = 5, SDS_SERVICE_ACTION = 6, SDS_SERVICE_EVENT = 7 };
+enum sds_short_service {
+    SDS_SHORT_CHANGE_OFF = 0,    /* Change of State */
+    SDS_SHORT_CHANGE_ON = 1,
+    SDS_SHORT_CHANGE_OFF_ACK = 2,
+    SDS_SHORT_CHANGE_ON_ACK = 3,
+    SDS_SHORT_WRITE_OFF = 4,
+    SDS_SHORT_WRITE_ON = 5,
+    SDS_SHORT_WRITE_OFF_ACK = 6,
+    SDS_SHORT_WRITE_ON_ACK = 7
+};
 enum sds_response { SDS_REQUEST = 0, SDS_SUCCESSFUL = 1, SDS_ERROR = 2, SDS_WAIT = 3 };
 
 /*

@@ -11,8 +11,8 @@ struct table {
     uint8_t object, id;        /* of the attribute that a row asks for */
 };
 
-/* What the records are: plain ones and ones of network data by turns, or of one kind. */
-enum mix { MIXED, ALL_PLAIN, ALL_BOOLEAN };
+/* What the records are: plain ones and ones of network data by turns; the same, but for object 0, whose records are plain; or of one kind. */
+enum mix { MIXED, MIXED_BEHIND_0, ALL_PLAIN, ALL_BOOLEAN };
 
 /* as it is lent */
 static inline struct sds_table lent_table(const struct table *table)
@@ -22,7 +22,13 @@ static inline struct sds_table lent_table(const struct table *table)
 
 void make_table(struct table *table, unsigned records, enum mix mix);
 
-/* Gives the record at a place another length and access and makes it the one that is asked for; all behind it moves along. */
+/* how many of its records, the first ones, are object 0's */
+unsigned records_of_0(const struct table *table);
+
+/*
+ * Gives the record at a place another length and access and makes it the one that is asked for; all behind it moves along. With network access
+ * it is a Boolean.
+ */
 void set_wanted(struct table *table, unsigned place, uint8_t length, uint8_t access);
 
 #endif

@@ -24,7 +24,22 @@ static const char help[] =
 static struct device device;
 static bool follows;
 
-/* requests that are to be answered, oldest first: what their answers carry, how many frames are left, and the number of the reply */
+/* what acknowledges a service of the short form (000, figure 3.4); of an acknowledge 0, which acknowledges nothing */
+static const uint8_t acknowledges[] = {
+    [SDS_SHORT_CHANGE_OFF] = SDS_SHORT_CHANGE_OFF_ACK,
+    [SDS_SHORT_CHANGE_ON] = SDS_SHORT_CHANGE_ON_ACK,
+    [SDS_SHORT_WRITE_OFF] = SDS_SHORT_WRITE_OFF_ACK,
+    [SDS_SHORT_WRITE_ON] = SDS_SHORT_WRITE_ON_ACK,
+    [SDS_SHORT_WRITE_ON_ACK] = 0,
+};
+
+/* A Change of State is one too: its sender waits for an acknowledge. */
+static bool is_request(const struct sds_message *message)
+{
+    return message->kind == SDS_KIND_SHORT ? acknowledges[message->service] != 0 : message->response == SDS_REQUEST;
+}
+
+/* requests that may be answered, oldest first: what their answers carry, how many frames are left, and the number of the reply */
 static struct request {
     struct sds_message answer;
     uint32_t frames, number;
@@ -37,25 +52,41 @@ static void forget(size_t count)
     memmove(waiting, waiting + count, waiting_count * sizeof waiting[0]);
 }
 
+/*
+ * Our device does not answer a request in short form that it refuses; another, which serves it, answers with this. What else is refused with 5
+ * cannot be read.
+ */
+static bool acknowledged_elsewhere(const uint8_t record[SDS_RECORD], uint32_t number, struct sds_message *answer)
+{
+    if (number != SDS_BAD_SERVICE || sds_message_read(record, answer) != SDS_SERVED || !is_request(answer))
+        return false;
+    answer->from_guest = 1;
+    answer->service = acknowledges[answer->service];
+    return true;
+}
+
 /* A frame that is none to the device is refused by its core and alters nothing, so every frame may be played. */
 static void play(const uint8_t record[SDS_RECORD])
 {
     uint32_t reply = device_step(&device, record);
-    if (SDS_COUNT(reply) == 0)
+    struct request request = {.frames = SDS_COUNT(reply), .number = SDS_NUMBER(reply)};
+    if (request.frames > 0)
+        sds_message_read(device.out, &request.answer);
+    else if (acknowledged_elsewhere(record, request.number, &request.answer))
+        request.frames = 1;
+    else
         return;
     if (waiting_count == sizeof waiting / sizeof waiting[0])
         forget(1);
-    struct request *request = &waiting[waiting_count++];
-    request->frames = SDS_COUNT(reply);
-    request->number = SDS_NUMBER(reply);
-    sds_message_read(device.out, &request->answer);
+    waiting[waiting_count++] = request;
 }
 
+/* Fragments and whole messages are not told apart: an Error may stand where fragments are due. What a short form does not have is 0. */
 static bool answers(const struct sds_message *answer, const struct request *request)
 {
     const struct sds_message *due = &request->answer;
-    return answer->kind != SDS_KIND_SHORT && answer->from_guest && answer->address == due->address && answer->service == due->service &&
-           answer->object == due->object && answer->id == due->id;
+    return (answer->kind == SDS_KIND_SHORT) == (due->kind == SDS_KIND_SHORT) && answer->from_guest && answer->address == due->address &&
+           answer->service == due->service && answer->object == due->object && answer->id == due->id;
 }
 
 /* A guest answers in order: a request that is older than the one answered will not be answered any more. */
@@ -74,13 +105,19 @@ static void explain_answer(const struct sds_message *answer)
     forget(--waiting[i].frames == 0 ? i + 1 : i);
 }
 
+/* What the device sends of its own accord, such as a Change of State, is no answer. */
+static bool is_answer_of_device(const uint8_t record[SDS_RECORD], struct sds_message *message)
+{
+    return sds_message_read(record, message) == SDS_SERVED && message->from_guest && message->address == device.address && !is_request(message);
+}
+
 static void explain(const uint8_t record[SDS_RECORD])
 {
     struct sds_message message;
     int width = words_record(stdout, record);
     if (follows)
         play(record);
-    if (follows && sds_message_read(record, &message) == SDS_SERVED && message.from_guest && message.address == device.address) {
+    if (follows && is_answer_of_device(record, &message)) {
         printf("%*s", width < WORDS_COLUMN ? WORDS_COLUMN - width : 2, "");
         explain_answer(&message);
     }

@@ -29,7 +29,8 @@
 static const char help[] =
     "usage: gateway --address N --table FILE --store FILE [--trace] [--new-store] LINK\n"
     "\n"
-    "Serves Read and Write of one Smart Distributed System device. LINK is one of\n"
+    "Serves Read, Write and the short Writes of one Smart Distributed System device.\n"
+    "LINK is one of\n"
     "\n"
     "  can:IFACE   a SocketCAN interface\n"
     "  unix:PATH   a SOCK_SEQPACKET socket that is made there; one peer at a time\n"

@@ -29,15 +29,16 @@ enum mailbox { MAILBOX_EMPTY, MAILBOX_FRAME, MAILBOX_LOST };
  * It matters because a fragment does not say which message it is of. If one message loses its fragments 4 to 7 and the next to the same
  * attribute its 0 to 3, what is left are fragments 0 to 7, which are joined, written and acknowledged: a value that nobody sent. Upon
  * MAILBOX_LOST the device drops all that is half joined, so fragments behind a loss are answered with an Error until a number 0 comes, and the
- * host begins anew. A lost Read or whole Write is not answered, and the host repeats it. Frames that are lost before they reach the bus are
- * the sender's: it must not send the rest of a message whose number 0 it has dropped.
+ * host begins anew. A lost Read, whole Write or short Write is not answered, and the host repeats it. Frames that are lost before they reach
+ * the bus are the sender's: it must not send the rest of a message whose number 0 it has dropped.
  */
 enum mailbox mailbox_receive(uint8_t record[SDS_RECORD]);
 
 /*
  * Sends a frame, after those before it: give them to one transmit mailbox, or to a FIFO, but not to several mailboxes that the controller
- * empties in the order of identifiers (the answers to one request have the same). RTR is 0, and the DLC 2 to 8. Waits while there is no room.
- * Where the bus is off or the frame is not taken in reasonable time, give up and return: the host repeats what is not answered.
+ * empties in the order of identifiers (the answers to one request have the same). RTR is 0, and the DLC 2 to 8, or 0 where it acknowledges a
+ * short Write. Waits while there is no room. Where the bus is off or the frame is not taken in reasonable time, give up and return: the host
+ * repeats what is not answered.
  */
 void mailbox_send(const uint8_t record[SDS_RECORD]);
 

@@ -35,6 +35,13 @@ function depth(name,    callee, parts, i, n, most, way) {
     return deepest[name] = frame[name] + most
 }
 
+# the place, among all functions, of the last that begins at or before an address
+function around(address,    i) {
+    for (i = functions; i > 1 && begins[i] > address; i--)
+        ;
+    return i
+}
+
 # FILE:NAME bytes static, and for C also FILE:LINE:NAME; a name of the module holds colons itself
 FILENAME ~ /\.su$/ {
     name = $1
@@ -52,6 +59,8 @@ FILENAME ~ /\.su$/ {
         next
     current = name
     known[current] = 1
+    begins[++functions] = "x" $1    # eight digits in hex, with a letter in front so that awk compares them as text
+    names[functions] = name
     next
 }
 
@@ -62,10 +71,18 @@ $2 ~ /^blx/ && $3 !~ /^0x/ || $2 ~ /^bx/ && $3 != "lr" || $2 ~ /^tb[bh]$/ || ($3
     stop("a computed address in " current ": " $0)
 }
 
-# A Cortex-M0 also takes bl for a far jump inside a function: only a bl to its beginning is a call of itself.
+# A Cortex-M0 also takes bl for a far jump inside a function: only a bl to its beginning is a call of itself. A place behind constants that stand
+# inside a function is told from the mark ($t) there; that it is inside the same function shows when all functions are known.
 $2 ~ /^(b|cb)/ && match($0, /<[^>]*>/) {
     target = substr($0, RSTART + 1, RLENGTH - 2)
     inside = sub(/\+0x[0-9a-f]+$/, "", target)
+    if (target ~ /^\$/) {
+        match($0, /0x[0-9a-f]+ </)
+        address = substr($0, RSTART + 2, RLENGTH - 4)
+        marked[++marks] = "x" substr("00000000" address, length(address) + 1)
+        from[marks] = current
+        next
+    }
     if (target == current && (inside || $2 != "bl"))
         next
     if (index(" " calls[current] " ", " " target " ") == 0)
@@ -77,6 +94,11 @@ END {
         exit 1
     if (!(entry in known))
         stop("no code of " entry)
+    for (i = 1; i <= marks; i++) {
+        place = around(marked[i])
+        if (names[place] != from[i] || begins[place] == marked[i])
+            stop("a jump from " from[i] " to " marked[i] ", in " names[place])
+    }
     bytes = depth(entry)
     print bytes ": " path[entry]
 }

@@ -10,7 +10,10 @@
 /* Once, before the first frame: puts back what was kept. The store is all 0 before. */
 void store_open(uint8_t *store, uint32_t length);
 
-/* After each frame that has altered the store, and before its answer: a host that sees the answer may cut the current. */
+/*
+ * After each frame that has altered a byte of the store, by whichever kind of Write, and before its answer: a host that sees the answer may cut
+ * the current. A Write of the bytes that are there alters nothing: the device compares the store with a copy of it.
+ */
 void store_changed(const uint8_t *store, uint32_t length);
 
 #endif

@@ -93,6 +93,23 @@ static void fields(void)
                            tag->length == 32 && tag->offset[0] == 35 && tag->offset[1] == 0 && tag->descriptor[0] == 0x3F && tag->descriptor[1] == 0x07);
 }
 
+/* the names of the short form's services are those of 000's figure 3.4, by their values; each is read and written */
+static void short_services(void)
+{
+    static const uint8_t figure[] = {SDS_SHORT_CHANGE_OFF, SDS_SHORT_CHANGE_ON, SDS_SHORT_CHANGE_OFF_ACK, SDS_SHORT_CHANGE_ON_ACK,
+                                     SDS_SHORT_WRITE_OFF,  SDS_SHORT_WRITE_ON,  SDS_SHORT_WRITE_OFF_ACK,  SDS_SHORT_WRITE_ON_ACK};
+    int holds = sizeof figure == 8;
+    for (uint8_t value = 0; value < sizeof figure; value++) {
+        const uint8_t *record = RECORD(0xA4, (uint8_t)(value << 5), 0xEE), *cleared = RECORD(0xA4, (uint8_t)(value << 5));
+        const struct sds_message expected = {.kind = SDS_KIND_SHORT, .from_guest = 1, .address = 36, .service = figure[value]};
+        struct sds_message m;
+        uint8_t back[SDS_RECORD];
+        holds &= sds_message_read(record, &m) == 0 && !memcmp(&m, &expected, sizeof m);
+        holds &= sds_message_write(&m, back) == 0 && !memcmp(back, cleared, sizeof back);
+    }
+    check("short form services", holds);
+}
+
 /* a CAN frame and its record; a DLC over 8 has eight data bytes, RTR none */
 static void frame(const char *name, uint32_t rtr, uint32_t dlc, const uint8_t expected[SDS_RECORD])
 {
@@ -120,6 +137,7 @@ int main(void)
     sizes();
     messages();
     fields();
+    short_services();
     frames();
     return failed;
 }

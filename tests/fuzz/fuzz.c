@@ -10,7 +10,7 @@
  *     6..    r records of the table, then records of frames; a rest is a record of that length
  *
  * Each frame goes to the core and to the reference. Results and all buffers must be equal afterwards; each buffer ends where an unreadable page begins and
- * stands behind guard bytes, so that a byte read or written outside one shows.
+ * stands behind guard bytes, so that a byte read or written outside one shows. At the end, what came up of the short form is counted.
  */
 #include <stdio.h>
 #include <stdlib.h>
@@ -18,6 +18,7 @@
 #include <sys/mman.h>
 #include "reference.h"
 #include "sds.h"
+#include "short.h"
 
 enum { FRONT = 6, STORE_OVER = 16, GUARD = 64, GUARD_BYTE = 0x5A, ROOM = 1 << 16 };
 enum length { RIGHT, RECORD, TABLE, STORE, WORK, OUT, MESSAGE, LENGTHS };
@@ -26,6 +27,9 @@ enum side { CORE, REFERENCE, SIDES };
 
 static uint8_t *ends[SIDES][LENGTHS]; /* where each buffer of each side ends */
 static size_t lengths[LENGTHS];
+
+/* the fuzzer keeps an input that sets another of these, as one that reaches another line */
+static uint8_t found[NOT_LOOKED_FOR + 1] __attribute__((used, section("__libfuzzer_extra_counters")));
 
 static uint8_t *room_before_a_closed_page(void)
 {
@@ -87,6 +91,7 @@ static void step_both(uint32_t own)
                                lent(REFERENCE, WORK), n[WORK], lent(REFERENCE, OUT), n[OUT]);
     must_be(ours == theirs, "the reply of sds_step");
     same_everywhere();
+    found[short_count(&core, lent(CORE, RECORD), ours)] = 1;
 }
 
 /* the record read into the message and written back; the record's first bytes are tried as a message too */
@@ -129,9 +134,16 @@ static void converse(uint32_t own, const uint8_t *front, const uint8_t *frames, 
     }
 }
 
+static void print_counts(void)
+{
+    if (!short_came_up())
+        printf("a kind with 0 above never came up\n");
+}
+
 int LLVMFuzzerInitialize(int *argc, char ***argv)
 {
     (void)argc, (void)argv;
+    atexit(print_counts);
     for (enum side side = CORE; side < SIDES; side++)
         for (enum length buffer = RECORD; buffer <= MESSAGE; buffer++)
             ends[side][buffer] = room_before_a_closed_page();

@@ -1,4 +1,7 @@
-"""Conversations with the gateway, and explain's words for them. 01 is the scope page, 000 the application layer specification."""
+"""
+Conversations with the gateway, and explain's words for them. 01 is the scope page, 02 the requests for changes, 000 the application layer
+specification.
+"""
 import errno
 import itertools
 import os
@@ -6,21 +9,31 @@ import random
 import shutil
 import signal
 import socket
+import struct
 import subprocess
 import sys
 import tempfile
 import threading
 import time
 
-from link import (ACTION, CAN_FRAME, EMULATOR, ERROR, ERROR_FLAG, EXPLAIN, EXTENDED, GATEWAY, LIMIT, READ, WATCHED, WRITE, Failure, Gateway,
-                  Host, Peer, expect, frame_of, read_line, record)
+from link import (ACTION, CAN_FRAME, CHANGE_OFF, CHANGE_ON, CHANGE_ON_ACK, EMULATOR, ERROR, ERROR_FLAG, EVENT, EXPLAIN, EXTENDED, GATEWAY, LIMIT,
+                  READ, WATCHED, WRITE, WRITE_OFF, WRITE_OFF_ACK, WRITE_ON, WRITE_ON_ACK, Failure, Gateway, Host, Peer, expect, frame_of, read_line,
+                  record)
 
 HERE = os.path.dirname(os.path.abspath(__file__))
 SCRATCH = tempfile.mkdtemp(prefix="sds-gateway-")
-with open("captures/sample.table", "rb") as file:
-    SAMPLE = file.read()  # 01, "Sample device"
+
+
+def content(path):
+    with open(path, "rb") as file:
+        return file.read()
+
+
+SAMPLE = content("captures/sample.table")  # 01, "Sample device"
 NORTH, SOUTH = b"North conveyor, gate, sensor no1", b"South conveyor, gate, sensor no2"
 NINE = Host(9)
+EYE = Host(36)  # a photo-eye at the address of 000, 5.1.3
+ON, OFF = (EYE.short(WRITE_ON), [EYE.short_answer(WRITE_ON_ACK)]), (EYE.short(WRITE_OFF), [EYE.short_answer(WRITE_OFF_ACK)])
 
 
 class Device:
@@ -43,15 +56,19 @@ class Device:
         return ["--address", str(self.address), "--table", self.table, "--store", self.store]
 
     def stored(self):
-        with open(self.store, "rb") as file:
-            return file.read()
+        return content(self.store)
+
+
+def photo_eye():
+    """object 0: a plain byte at 0 of the store, the point (ID 18) at 1, a name of 11 bytes (ID 56) behind it"""
+    return Device(content("captures/photo_eye.table"), bytes(13), EYE.address)
 
 
 def reads_back(device, store=None):
-    """a new gateway on the sample device's files reads out what the store is to hold"""
-    gateway, store = Gateway(device), device.stored() if store is None else store
-    gateway.peer.converse((NINE.read(2, 18), NINE.value(2, 18, store[:1])), (NINE.read(2, 56), NINE.value(2, 56, store[1:33])),
-                          (NINE.read(3, 10), NINE.value(3, 10, store[33:35])), (NINE.read(3, 56), NINE.value(3, 56, store[35:])))
+    """a new gateway on a device's files reads out what the store is to hold; all its attributes may be read"""
+    gateway, host, store = Gateway(device), Host(device.address), device.stored() if store is None else store
+    for obj, attribute, length, offset in struct.iter_unpack("<BBxBH2x", content(device.table)):
+        gateway.peer.converse((host.read(obj, attribute), host.value(obj, attribute, store[offset:offset + length])))
     gateway.hang_up()
 
 
@@ -121,6 +138,8 @@ def bits(text):
 
 def examples_of_the_specification():
     for address, table, before, after, turns in [
+        (36, "0012070100000081", b"\x00", b"\x01", [  # 5.1.3 and 5.1.4
+            (bits("0 0100100 101 0 0000"), [bits("1 0100100 111 0 0000")])]),
         (16, "0008010100000000", b"\x03", b"\x03", [  # 5.2.1
             (bits("0 0010000 101 0 0010 000 00000 00001000"), [bits("1 0010000 101 0 0011 010 00000 00001000 00000011")])]),
         (76, "030C030100000000", b"\x00", b"\x0F", [  # 5.2.2
@@ -144,7 +163,73 @@ def examples_of_the_specification():
         expect("the store", device.stored(), after)
 
 
-# 3: the store survives
+# 3: a photo-eye, whose point takes short Writes (02, 2026-01)
+
+def photo_eye_turns():
+    """
+    A capture's requests, each with its answers and the store when they are due. Between the fragments of a name the point is written ON and OFF, in
+    records with garbage in their unused bytes.
+    """
+    capture, turns = content("captures/photo_eye.sds"), []
+    for rec in (capture[i:i + 10] for i in range(0, len(capture), 10)):
+        if rec[0] & 128:
+            turns[-1][1].append(rec)
+        else:
+            turns.append((rec, []))
+    points = "1100" "01101" "1111" "11111111" "0"  # after each turn: ON and OFF, the name by turns with them, Reads, what has no answer, OFF
+    expect("the capture's turns", len(turns), len(points))
+    return [(rec, answers, bytes([0, int(point)]) + (b"GATE SENSOR" if n >= 9 else bytes(11)))
+            for n, ((rec, answers), point) in enumerate(zip(turns, points))]
+
+
+def short_writes():
+    """the store holds each at the moment of its answer, and a half-built name never"""
+    device = photo_eye()
+    gateway = Gateway(device)
+    for rec, answers, store in photo_eye_turns():
+        gateway.peer.converse((rec, answers))
+        expect(f"the store after {rec.hex(' ')}", device.stored(), store)
+    gateway.hang_up()
+    reads_back(device)
+
+
+def short_writes_with_garbage():
+    """of a frame with DLC 0 nothing is looked at that a struct can_frame has behind the length"""
+    device, name = photo_eye(), EYE.fragments(0, 56, b"GATE SENSOR")
+    gateway = Gateway(device)
+    gateway.peer.converse((name[0], []))
+    for garbage in b"\xFF" * 11, b"\0\0\x0F" + bytes.fromhex("2038010B58585858"), b"\1\2\x08" + bytes.fromhex("4012010000000000"):
+        for (rec, answers), point in (ON, 1), (OFF, 0):
+            gateway.peer.link.send(frame_of(rec)[:5] + garbage)
+            expect(f"answers to {rec[:2].hex(' ')} and garbage", [gateway.peer.receive()], answers)
+            expect("the store", device.stored(), bytes([0, point]) + bytes(11))
+    gateway.peer.converse((name[1], []), (name[2], [EYE.wrote(0, 56)]))
+    gateway.hang_up()
+    expect("the store", device.stored(), b"\0\0GATE SENSOR")
+
+
+def no_point_to_write():
+    """no answer to any short form, and nothing altered, where object 0's first network record takes no state"""
+    for table, length in [
+        ("", 0),
+        (SAMPLE.hex(), 67),  # no object 0
+        ("0112070100000081", 1),  # another object's
+        ("0012030100000000", 1),  # no network data
+        ("0012050100000081", 1),  # may not be written
+        ("0012070100000781", 1),  # eight points
+        ("0012070200004081", 2),  # one point in a word
+        ("0012070100002000", 1),  # an integer
+        ("0012070100000781" "0013070101000081", 2),  # only the second one would
+    ]:
+        device = Device(bytes.fromhex(table), b"\xA5" * length, EYE.address)
+        gateway = Gateway(device, "--trace")
+        gateway.peer.converse(*[(EYE.short(service), []) for service in range(8)], (EYE.read(9, 9), [EYE.answer(READ, ERROR, 9, 9)]))
+        numbers = [line.split(":")[0] for line in gateway.hang_up().splitlines() if line.startswith("  ")]
+        expect(f"the replies with table {table}", numbers, ["  refused 5"] * 8 + ["  refused 9"])
+        expect("the store", device.stored(), b"\xA5" * length)
+
+
+# 4: the store survives
 
 def history(rounds):
     """
@@ -172,18 +257,21 @@ def history(rounds):
     return turns
 
 
+def killed_after(frames, device, turns):
+    store = turns[frames - 1][2] if frames else device.stored()
+    os.chmod(device.store, 0o640)
+    gateway = Gateway(device)
+    gateway.peer.converse(*[(rec, answers) for rec, answers, _ in turns[:frames]])
+    gateway.kill()
+    expect(f"the store after {frames} frames", device.stored(), store)
+    expect("its permission bits", os.stat(device.store).st_mode & 0o777, 0o640)
+    reads_back(device, store)
+
+
 def killed_between_two_frames():
-    turns = history(1) + history(2)[18:22]
-    for k in range(len(turns) + 1):
-        device = Device()
-        os.chmod(device.store, 0o640)
-        gateway = Gateway(device)
-        gateway.peer.converse(*[(rec, answers) for rec, answers, _ in turns[:k]])
-        gateway.kill()
-        store = turns[k - 1][2] if k else bytes(67)
-        expect(f"the store after {k} frames", device.stored(), store)
-        expect("its permission bits", os.stat(device.store).st_mode & 0o777, 0o640)
-        reads_back(device, store)
+    for new_device, turns in (Device, history(1) + history(2)[18:22]), (photo_eye, photo_eye_turns()):
+        for frames in range(len(turns) + 1):
+            killed_after(frames, new_device(), turns)
 
 
 def restarted():
@@ -225,24 +313,26 @@ def killed_at_random(seed):
 
 def saved_before_the_answer():
     """the order of the calls, and that the answer goes out after them and nothing is written where nothing alters"""
-    device = Device()
-    gateway = Gateway(device, program=WATCHED)
     write = NINE.write(3, 10, b"\1\2"), [NINE.wrote(3, 10)]
-    gateway.peer.converse(write, write, (NINE.read(3, 10), NINE.value(3, 10, b"\1\2")))
-    gateway.peer.close()
     loaded, saved = ["fsync file", "fsync folder"], ["fsync file", "rename", "fsync folder"]
-    expect("calls", gateway.ends()[1].splitlines(), [*loaded, *saved, "send", "send", "send"])
+    for device, turn, read in (Device(), write, (NINE.read(3, 10), NINE.value(3, 10, b"\1\2"))), \
+            (photo_eye(), ON, (EYE.read(0, 18), EYE.value(0, 18, b"\1"))):
+        gateway = Gateway(device, program=WATCHED)
+        gateway.peer.converse(turn, turn, read)
+        gateway.peer.close()
+        expect("calls", gateway.ends()[1].splitlines(), [*loaded, *saved, "send", "send", "send"])
 
 
 def not_saved_not_acknowledged():
-    for fail, stored in ("fsync 5 3 3", bytes(67)), ("rename 28 1 1", bytes(67)), ("fsync 5 4 4", bytes(33) + b"\1\2" + bytes(32)):
-        device = Device()
-        gateway = Gateway(device, program=WATCHED, fail=fail)
-        gateway.peer.send(NINE.write(3, 10, b"\1\2"))
-        expect("answers", gateway.peer.rest(), [])
-        text = gateway.ends(1)[1].splitlines()[-1]
-        expect("message", text, f"gateway: {device.store}: not saved: {os.strerror(int(fail.split()[1]))}")
-        expect(f"the store ({fail})", device.stored(), stored)
+    for new_device, write, altered in (Device, NINE.write(3, 10, b"\1\2"), bytes(33) + b"\1\2" + bytes(32)), (photo_eye, ON[0], b"\0\1" + bytes(11)):
+        for fail, replaced in ("fsync 5 3 3", False), ("rename 28 1 1", False), ("fsync 5 4 4", True):
+            device = new_device()
+            gateway = Gateway(device, program=WATCHED, fail=fail)
+            gateway.peer.send(write)
+            expect("answers", gateway.peer.rest(), [])
+            text = gateway.ends(1)[1].splitlines()[-1]
+            expect("message", text, f"gateway: {device.store}: not saved: {os.strerror(int(fail.split()[1]))}")
+            expect(f"the store ({fail})", device.stored(), altered if replaced else bytes(len(altered)))
     device = Device()
     gateway = Gateway(device)
     gateway.peer.converse((NINE.read(3, 10), NINE.value(3, 10, bytes(2))))
@@ -275,7 +365,7 @@ def link_to_a_store():
     expect("the store", device.stored(), bytes(33) + b"\1\2" + bytes(32))
 
 
-# 4: links
+# 5: links
 
 def connect(path):
     link = socket.socket(socket.AF_UNIX, socket.SOCK_SEQPACKET)
@@ -390,7 +480,7 @@ def stopped_while_a_peer_takes_nothing():
     gateway.stop()
 
 
-# 5: errors
+# 6: errors
 
 def ends_with(message, *options, device=None, link="fd:0", status=2):
     gateway = Gateway(device or Device(), *options, link=link)
@@ -453,7 +543,7 @@ def bad_options():
         expect("help", (helped.stdout[:6], helped.stderr), (b"usage:", b""))
 
 
-# 6: odd frames
+# 7: odd frames
 
 def odd_frames():
     write = NINE.write(3, 10, b"\x2C\x01")
@@ -477,7 +567,7 @@ def odd_frames():
     expect("the store", device.stored(), bytes(67))
 
 
-# 7: words
+# 8: words
 
 def kept(name):
     with open(os.path.join(HERE, name), encoding="ascii") as file:
@@ -503,7 +593,7 @@ def talk():
         (NINE.read(2, 118), [error(READ, 2, 118)]),
         (flagged, [error(READ, 2, 56)]),
         (action, [error(ACTION, 3, 1)]),
-        (record(9, 0xA0), []),
+        (NINE.short(WRITE_ON), []),
         (Host(10).read(3, 10), []),
         (tag[0], []),
         (tag[2], [error(WRITE, 2, 56)]),
@@ -512,17 +602,17 @@ def talk():
 
 
 def trace():
-    gateway = Gateway(Device(), "--trace")
-    gateway.peer.converse(*talk())
-    lines = gateway.hang_up().splitlines()
-    expect("the first line", lines[0].split(":")[0], "serving address 9 on fd")
-    expect("the trace", lines[1:], kept("trace.txt").splitlines())
+    eye_turns = [(rec, answers) for rec, answers, _ in photo_eye_turns()]
+    for device, turns, expected in (Device(), talk(), "trace.txt"), (photo_eye(), eye_turns, "photo_eye_trace.txt"):
+        gateway = Gateway(device, "--trace")
+        gateway.peer.converse(*turns)
+        lines = gateway.hang_up().splitlines()
+        expect("the first line", lines[0].split(":")[0], f"serving address {device.address} on fd")
+        expect("the trace", lines[1:], kept(expected).splitlines())
 
 
 def explain_a_capture():
-    with open("captures/sample.sds", "rb") as file:
-        sample = file.read()
-    expect("the sample in words", explained(sample, status=1).splitlines(), kept("sample.txt").splitlines())
+    expect("the sample in words", explained(content("captures/sample.sds"), status=1).splitlines(), kept("sample.txt").splitlines())
     expect("the same from a file", explained(b"", "captures/sample.sds", status=1).splitlines(), kept("sample.txt").splitlines())
 
 
@@ -533,8 +623,25 @@ def explain_answers():
     strange = [NINE.wrote(3, 10), NINE.read(3, 10), error(READ, 3, 10)]  # an answer to nothing, and one that the table does not give
     late = [NINE.write(3, 10, b"\1"), NINE.write(3, 10, b"\1\2"), error(WRITE, 3, 10), NINE.wrote(3, 10)]  # both requests, both answers
     lost = [NINE.write(3, 10, b"\1"), NINE.read(2, 10), NINE.read(3, 11), NINE.read(3, 10), *NINE.value(3, 10, b"\1\2")]  # only one answer
-    seen = explained(b"".join(frames + strange + late + lost), *options).splitlines()
+    untrue = [NINE.short_answer(WRITE_OFF_ACK), NINE.short(WRITE_OFF), NINE.short_answer(WRITE_OFF_ACK)]  # what the table does not serve
+    event = [NINE.answer(EVENT, 0, 3, 1), NINE.short_answer(CHANGE_ON)]  # no answers: the device begins
+    seen = explained(b"".join(frames + strange + late + lost + untrue + event), *options).splitlines()
     expect("answers explained", seen, kept("explain.txt").splitlines())
+
+
+def explain_short_answers():
+    """behind the capture, what is no answer or none to what was asked"""
+    on, off, on_ack, off_ack = ON[0], OFF[0], ON[1][0], OFF[1][0]
+    action, refused = record(36, 0xC2), EYE.answer(ACTION, ERROR, 0, 0)  # of object 0, action 0: service 6, as the short form's Write OFF ACK
+    rest = [on_ack, on, on, on_ack, on_ack, on_ack,  # asked for twice and acknowledged four times
+            on, off, off_ack, on_ack,  # the second is answered, so the first is not any more
+            action, off_ack, refused, off, refused, off_ack,
+            EYE.short_answer(CHANGE_ON), EYE.short(CHANGE_ON_ACK), EYE.short_answer(CHANGE_OFF), EYE.short_answer(WRITE_ON),  # the device begins
+            EYE.short(CHANGE_ON), EYE.short_answer(CHANGE_ON_ACK), EYE.short_answer(CHANGE_ON_ACK),
+            on, Host(37).short_answer(WRITE_ON_ACK), on_ack]
+    options = "--table", "captures/photo_eye.table", "--address", "36"
+    seen = explained(content("captures/photo_eye.sds") + b"".join(rest), *options).splitlines()
+    expect("answers in short form explained", seen, kept("photo_eye.txt").splitlines())
 
 
 def explain_a_live_pipe():
@@ -557,7 +664,7 @@ def explain_errors():
         expect("status, output and message", (done.returncode, done.stdout, done.stderr.decode()), (2, b"", f"explain: {message}\n"))
 
 
-# 8: a CAN interface
+# 9: a CAN interface
 
 def vcan():
     """gives why it was not run"""
@@ -596,12 +703,13 @@ def main():
         killed_at_random(seed)
 
     for test in [two_tags_by_turns, cases_of_the_scope_page, examples_of_the_specification,
+                 short_writes, short_writes_with_garbage, no_point_to_write,
                  killed_between_two_frames, killed_at_random_moments, restarted, saved_before_the_answer, not_saved_not_acknowledged,
                  new_store, link_to_a_store,
                  unix_peers, unix_path_taken, peer_that_leaves_early, peer_that_reads_late, full_queue, broken_link,
                  stopped_while_frames_keep_coming, stopped_while_a_peer_takes_nothing,
                  bad_tables, bad_options, odd_frames,
-                 trace, explain_a_capture, explain_answers, explain_a_live_pipe, explain_errors,
+                 trace, explain_a_capture, explain_answers, explain_short_answers, explain_a_live_pipe, explain_errors,
                  vcan]:
         name = test.__name__.replace("_", " ") + (f" (seed {seed})" if test is killed_at_random_moments else "")
         try:

@@ -14,6 +14,7 @@ GATEWAY, WATCHED, EXPLAIN = (f"target/hosts/{name}" for name in ("gateway", "cal
 CAN_FRAME = struct.Struct("=IB2xB8s")  # identifier and flags, length, raw DLC over 8, data
 EXTENDED, REMOTE, ERROR_FLAG = 0x80000000, 0x40000000, 0x20000000
 WRITE, READ, ACTION, EVENT = 4, 5, 6, 7
+CHANGE_OFF, CHANGE_ON, CHANGE_OFF_ACK, CHANGE_ON_ACK, WRITE_OFF, WRITE_ON, WRITE_OFF_ACK, WRITE_ON_ACK = range(8)  # of the short form
 SUCCESSFUL, ERROR = 1, 2
 
 
@@ -72,6 +73,12 @@ class Host:
     def fragments(self, obj, attribute, data):
         return [record(self.address, WRITE << 5 | 4 + len(data[i:i + 4]), 32 | obj, attribute, i // 4, len(data), *data[i:i + 4])
                 for i in range(0, len(data), 4)]
+
+    def short(self, service):
+        return record(self.address, service << 5)
+
+    def short_answer(self, service):
+        return record(128 | self.address, service << 5)
 
     def answer(self, service, response, obj, attribute):
         return record(128 | self.address, service << 5 | 2, response << 6 | obj, attribute)

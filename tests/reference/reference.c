@@ -1,6 +1,7 @@
 /*
- * SDS guest core, reference in C11. 01 is the scope page, 000 the application layer, 001 the component models. It is written from these papers and
- * shares nothing with the core, but for one decision where they leave a choice: Unsigned is type 4 (docs/DECISIONS.md).
+ * SDS guest core, reference in C11. 01 is the scope page, 02 the requests for changes, 000 the application layer, 001 the component models. It is
+ * written from these papers and shares nothing with the core, but for one decision where they leave a choice: Unsigned is type 4 (docs/DECISIONS.md).
+ * It is the plain C of the benchmark too, so its branches stand where they cost least.
  */
 #include "reference.h"
 
@@ -21,6 +22,10 @@ enum { WHOLE_DATA_MAX = 6, FRAGMENT_DATA_MAX = 4, NUMBER_MAX = 63 };
 /* 000, figure 3.6: the long services that are read; figure 3.8: Request/Response */
 enum { WRITE = 4, READ = 5, ACTION = 6, EVENT = 7 };
 enum { REQUEST, SUCCESSFUL, ERROR };
+
+/* 000, figure 3.4: the services of the short form; 02, 2026-01: the object that a short Write is for, and what it "sets [...] to 1 or 0" */
+enum { COS_OFF, COS_ON, COS_OFF_ACK, COS_ON_ACK, WRITE_OFF, WRITE_ON, WRITE_OFF_ACK, WRITE_ON_ACK };
+enum { SHORT_FORM_OBJECT = 0, STATE_OFF = 0, STATE_ON = 1 };
 
 /* 01, "Object table": the bytes of a record and its access bits */
 enum { ENTRY_OBJECT, ENTRY_ID, ENTRY_ACCESS, ENTRY_LENGTH, ENTRY_OFFSET, ENTRY_DESCRIPTOR = 6 };
@@ -47,6 +52,9 @@ static uint32_t service_of(const uint8_t *record) { return (uint32_t)record[FRAM
 /* 01, "Frame record", byte 1 */
 static uint32_t dlc_of(const uint8_t *record) { return record[FRAME_CONTROL] & DLC_MASK; }
 
+/* 01, "Frame record": "DLC 0 is the short form: Dir/Pri, address and service type are the whole message" */
+static int is_short(const uint8_t *record) { return dlc_of(record) == 0; }
+
 /* 01, "Frame record", byte 2: only for a DLC of 2 up */
 static uint32_t object_of(const uint8_t *record) { return record[FRAME_SPECIFIERS] & OBJECT_MASK; }
 
@@ -55,6 +63,9 @@ static int is_fragment(const uint8_t *record) { return (record[FRAME_SPECIFIERS]
 
 /* 01, codec's refusal 8 and check 8 for a Write: no room for number and total */
 static int is_cut_short(const uint8_t *record) { return is_fragment(record) && dlc_of(record) < FRAGMENT_HEAD; }
+
+/* 01, codec's refusal 5 and check 5 for a frame that is not of the short form: DLC 1, or DLC 2 up with service 0 to 3 */
+static int is_no_long_form(const uint8_t *record) { return dlc_of(record) < WHOLE_HEAD || service_of(record) < WRITE; }
 
 /* 01, check 3 */
 static int is_bad_frame(const uint8_t *record) {
@@ -83,16 +94,15 @@ uint32_t ref_read(const uint8_t *record, uint64_t record_len, uint8_t *message, 
         return REF_BAD_LENGTHS;
     if (is_bad_frame(record))
         return REF_BAD_FRAME;
-    uint32_t dlc = dlc_of(record);
-    if (dlc != 0 && (dlc < WHOLE_HEAD || service_of(record) < WRITE))
+    if (!is_short(record) && is_no_long_form(record))
         return REF_NOT_SERVABLE;
-    if (dlc != 0 && is_cut_short(record))
+    if (!is_short(record) && is_cut_short(record))
         return REF_BAD_FORM;
     memset(message, 0, REF_MESSAGE_SIZE); /* kind short form, nothing used */
     message[REF_DIRECTION] = (uint8_t)(record[FRAME_ADDRESS] >> DIRECTION_SHIFT);
     message[REF_ADDRESS] = record[FRAME_ADDRESS] & ADDRESS_MASK;
     message[REF_SERVICE] = (uint8_t)service_of(record);
-    if (dlc != 0)
+    if (!is_short(record))
         read_long_form(record, message);
     return REF_SERVED;
 }
@@ -157,14 +167,20 @@ static uint32_t boolean_size(uint32_t size, uint32_t container, uint32_t points)
     return points <= 8 * container ? container : 0;
 }
 
+/* 01, "Descriptor sizes", bits 11..8 */
+static uint32_t type_of(uint32_t descriptor) { return descriptor >> TYPE_SHIFT & TYPE_MASK; }
+
+/* 01, "Descriptor sizes", bits 4..0: "count, one less than the number N" */
+static uint32_t number_of(uint32_t descriptor) { return (descriptor & COUNT_MASK) + 1; }
+
 /* 01, "Descriptor sizes" */
 uint32_t ref_descriptor_size(uint32_t descriptor) {
     uint32_t size = descriptor >> SIZE_SHIFT & SIZE_MASK;
     uint32_t container = 1u << size >> 1; /* undefined 0, byte 1, word 2, long 4 */
-    uint32_t number = (descriptor & COUNT_MASK) + 1;
+    uint32_t number = number_of(descriptor);
     if (descriptor > DESCRIPTOR_MAX || (descriptor & RESERVED_BITS) != 0)
         return 0;
-    switch (descriptor >> TYPE_SHIFT & TYPE_MASK) {
+    switch (type_of(descriptor)) {
     case TYPE_SIGNED:
     case TYPE_UNSIGNED: return container;
     case TYPE_BOOLEAN: return boolean_size(size, container, number);
@@ -220,13 +236,15 @@ static const uint8_t *find_entry(const uint8_t *table, uint32_t table_len, const
     return 0;
 }
 
-/* 01, checks 3 to 6: passed over without a frame */
+/* 01, checks 3 to 6: passed over without a frame; check 5 of the short form, which looks at the table, is left to answer_short */
 static uint32_t silent_refusal(const uint8_t *record, uint32_t own) {
     if (is_bad_frame(record))
         return REF_BAD_FRAME;
     if (record[FRAME_ADDRESS] != own) /* own is at most 125, so a set Dir/Pri differs too */
         return REF_NOT_ADDRESSED;
-    if (dlc_of(record) < WHOLE_HEAD || service_of(record) < WRITE)
+    if (is_short(record))
+        return REF_SERVED;
+    if (is_no_long_form(record))
         return REF_NOT_SERVABLE;
     return record[FRAME_SPECIFIERS] >> ROLE_SHIFT == REQUEST ? REF_SERVED : REF_NOT_REQUEST;
 }
@@ -355,6 +373,41 @@ static uint32_t answer(const uint8_t *request, const uint8_t *table, uint32_t ta
     return refusal + REF_PER_FRAME;
 }
 
+/* 02, 2026-01: "A short Write ON or OFF"; only for the short form */
+static int is_short_write(const uint8_t *request) { return service_of(request) == WRITE_OFF || service_of(request) == WRITE_ON; }
+
+/* 02, 2026-01: "a single Boolean (N = 1, one byte)", of a network record, whose length is its descriptor's size */
+static int is_single_boolean(const uint8_t *entry) {
+    uint32_t descriptor = low_first(entry + ENTRY_DESCRIPTOR);
+    return type_of(descriptor) == TYPE_BOOLEAN && number_of(descriptor) == 1 && entry[ENTRY_LENGTH] == 1;
+}
+
+/* 02, 2026-01: "the first network record of object 0", or null; objects rise, so object 0's records are in front */
+static const uint8_t *first_network_entry(const uint8_t *table, uint32_t table_len) {
+    for (uint32_t at = 0; at < table_len && table[at + ENTRY_OBJECT] == SHORT_FORM_OBJECT; at += ENTRY_SIZE)
+        if ((table[at + ENTRY_ACCESS] & ACCESS_NETWORK) != 0)
+            return table + at;
+    return 0;
+}
+
+/* 02, 2026-01: "000's short acknowledge of that Write, with Dir/Pri 1" (figure 3.4, example 5.1.4); 01: bytes beyond the DLC are zero */
+static void put_short_acknowledge(uint8_t *out, const uint8_t *request) {
+    uint32_t service = service_of(request) == WRITE_ON ? WRITE_ON_ACK : WRITE_OFF_ACK;
+    memset(out, 0, RECORD_SIZE);
+    out[FRAME_ADDRESS] = (uint8_t)(request[FRAME_ADDRESS] | FROM_SOURCE);
+    out[FRAME_CONTROL] = (uint8_t)(service << SERVICE_SHIFT);
+}
+
+/* 02, 2026-01: check 5, the last for the short form, "for the other six codes and where object 0 has no such record", or the service */
+static uint32_t answer_short(const uint8_t *request, const uint8_t *table, uint32_t table_len, uint8_t *store, uint8_t *out) {
+    const uint8_t *entry = is_short_write(request) ? first_network_entry(table, table_len) : 0;
+    if (entry == 0 || !is_single_boolean(entry) || (entry[ENTRY_ACCESS] & ACCESS_WRITE) == 0)
+        return REF_NOT_SERVABLE;
+    store[low_first(entry + ENTRY_OFFSET)] = service_of(request) == WRITE_ON ? STATE_ON : STATE_OFF;
+    put_short_acknowledge(out, request);
+    return REF_SERVED + REF_PER_FRAME;
+}
+
 /* 01, "One frame, one reply" */
 uint32_t ref_step(const uint8_t *record, uint64_t record_len, uint32_t own,
                   const uint8_t *table, uint64_t table_len, uint8_t *store, uint64_t store_len,
@@ -366,5 +419,7 @@ uint32_t ref_step(const uint8_t *record, uint64_t record_len, uint32_t own,
     uint32_t refusal = silent_refusal(record, own);
     if (refusal != REF_SERVED)
         return refusal;
+    if (is_short(record))
+        return answer_short(record, table, (uint32_t)table_len, store, out);
     return answer(record, table, (uint32_t)table_len, store, work, out);
 }

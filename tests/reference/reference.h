@@ -1,4 +1,4 @@
-/* SDS guest core, reference in C11. 01 is the scope page, 000 the application layer, 001 the component models. */
+/* SDS guest core, reference in C11. 01 is the scope page, 02 the requests for changes, 000 the application layer, 001 the component models. */
 #ifndef REFERENCE_H
 #define REFERENCE_H
 

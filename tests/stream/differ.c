@@ -7,7 +7,9 @@
 #include <string.h>
 #include <time.h>
 #include "reference.h"
+#include "short.h"
 #include "stream.h"
+#include "tally.h"
 
 static const struct entry_points core = {sds_step, sds_read, sds_write, sds_descriptor_size, sds_table_check};
 static const struct entry_points reference = {ref_step, ref_read, ref_write, ref_descriptor_size, ref_table_check};
@@ -18,30 +20,22 @@ static uint8_t record[sizeof theirs.record], message[sizeof theirs.message]; /* 
 
 /* ---- what came up */
 
-/* a row of counts, with the names of its places; a name of 0 is something that cannot come up */
-struct tally {
-    const char *title;
-    const char *const *names;
-    unsigned places;
-    unsigned long long *counts;
-};
-
-#define TALLY(title, ...) {title, (const char *const[]){__VA_ARGS__}, sizeof((const char *const[]){__VA_ARGS__}) / sizeof(char *), \
-                           (unsigned long long[sizeof((const char *const[]){__VA_ARGS__}) / sizeof(char *)]){0}}
-
-enum { BY_ENTRY, BY_NUMBER, BY_SERVED, BY_FRAME, BY_DISTURBANCE, BY_READ, BY_WRITTEN, BY_TABLE, BY_SIZE, TALLIES };
-enum served { READ_PLAIN, READ_IN_FRAGMENTS, WRITTEN_WHOLE, KEPT, COMPLETED, COMPLETED_ALONE };
+enum { BY_ENTRY, BY_NUMBER, BY_SERVED, BY_FRAME, BY_DISTURBANCE, BY_READ, BY_CODE_READ, BY_WRITTEN, BY_CODE_WRITTEN, BY_TABLE, BY_SIZE, TALLIES };
+enum served { READ_PLAIN, READ_IN_FRAGMENTS, WRITTEN_WHOLE, KEPT, COMPLETED, COMPLETED_ALONE, SET_OFF, SET_ON };
 
 static struct tally tallies[TALLIES] = {
     [BY_ENTRY] = TALLY("calls", "step", "read", "write", "table_check", "descriptor_size"),
     /* 13 cannot: a number that passes check 12 is at most 63 */
     [BY_NUMBER] = TALLY("step", "0", "1", "2", "3", "4", "5", "6", "7", "8", "9", "10", "11", "12", 0, "14"),
-    [BY_SERVED] = TALLY("served", "Read, one frame", "Read, fragments", "whole Write", "fragment kept", "last of several", "only fragment"),
-    [BY_FRAME] = TALLY("frames", "next fragment", "first fragment", "whole Write", "Read", "stranger", "noise"),
+    [BY_SERVED] = TALLY("served", "Read, one frame", "Read, fragments", "whole Write", "fragment kept", "last of several", "only fragment", "short Write OFF",
+                        "short Write ON"),
+    [BY_FRAME] = TALLY("frames", "next fragment", "first fragment", "whole Write", "Read", "short form", "stranger", "noise"),
     [BY_DISTURBANCE] = TALLY("disturbed", "not", "bit", "byte", "DLC", "number", "total", "table byte", "work byte", "record length", "table length",
                              "store length", "work length", "output length", "own address", "message byte", "message length"),
     [BY_READ] = TALLY("read", "short", "whole", "fragment", "refused 1", "refused 3", "refused 5", "refused 8"),
+    [BY_CODE_READ] = TALLY("read, short", SHORT_CODE_NAMES),
     [BY_WRITTEN] = TALLY("write", "short", "whole", "fragment", "refused 1", "refused 3"),
+    [BY_CODE_WRITTEN] = TALLY("write, short", SHORT_CODE_NAMES),
     [BY_TABLE] = TALLY("table_check", "0", "1", "2"),
     [BY_SIZE] = TALLY("descriptor_size", "refused", "1", "2", "4", "other"),
 };
@@ -55,6 +49,8 @@ static enum served served_as(const uint8_t *frame, uint32_t answers)
 {
     struct sds_message request;
     sds_message_read(frame, &request);
+    if (request.kind == SDS_KIND_SHORT)
+        return request.service == SDS_SHORT_WRITE_ON ? SET_ON : SET_OFF;
     if (request.service == SDS_SERVICE_READ)
         return answers > 1 ? READ_IN_FRAGMENTS : READ_PLAIN;
     if (request.kind == SDS_KIND_WHOLE)
@@ -62,8 +58,21 @@ static enum served served_as(const uint8_t *frame, uint32_t answers)
     return answers == 0 ? KEPT : request.number ? COMPLETED : COMPLETED_ALONE;
 }
 
+static struct sds_device device_of(const struct call *c, struct areas *a)
+{
+    return (struct sds_device){
+        .address = c->own,
+        .table = {a->table, c->table_len},
+        .store = {a->store, c->store_len},
+        .work = {a->work, c->work_len},
+        .out = {a->out, c->out_len},
+    };
+}
+
 static void count_step(uint32_t reply)
 {
+    const struct sds_device device = device_of(&stream.call, &theirs);
+    short_count(&device, record, reply);
     count(BY_NUMBER, SDS_NUMBER(reply));
     count(BY_FRAME, stream.call.frame);
     count(BY_DISTURBANCE, stream.call.disturbance);
@@ -71,14 +80,23 @@ static void count_step(uint32_t reply)
         count(BY_SERVED, served_as(record, SDS_COUNT(reply)));
 }
 
-static void count_call(uint32_t result)
+/* what the codec did with a message: the refusal, or the message's kind, and its code where that is the short form */
+static void count_message(unsigned tally, unsigned code_tally, uint32_t result, const uint8_t *bytes)
 {
     static const uint8_t places_of_refusals[] = {[SDS_BAD_LENGTH] = 3, [SDS_BAD_FRAME] = 4, [SDS_BAD_SERVICE] = 5, [SDS_BAD_FORM] = 6};
+    const struct sds_message *m = (const struct sds_message *)bytes;
+    count(tally, result ? places_of_refusals[result] : m->kind);
+    if (result == SDS_SERVED && m->kind == SDS_KIND_SHORT)
+        count(code_tally, m->service);
+}
+
+static void count_call(uint32_t result)
+{
     count(BY_ENTRY, stream.call.entry);
     switch (stream.call.entry) {
     case STEP: count_step(result); break;
-    case READ: count(BY_READ, result ? places_of_refusals[result] : theirs.message[0]); break;
-    case WRITE: count(BY_WRITTEN, result ? places_of_refusals[result] : message[0]); break;
+    case READ: count_message(BY_READ, BY_CODE_READ, result, theirs.message); break;
+    case WRITE: count_message(BY_WRITTEN, BY_CODE_WRITTEN, result, message); break;
     case TABLE_CHECK: count(BY_TABLE, result); break;
     default: count(BY_SIZE, result < 3 ? result : result == 4 ? 3 : 4); break;
     }
@@ -87,18 +105,8 @@ static void count_call(uint32_t result)
 /* prints all counts; gives whether each kind came up */
 static int all_came_up(void)
 {
-    int all = 1;
-    for (unsigned t = 0; t < TALLIES; t++) {
-        printf("%s:", tallies[t].title);
-        for (unsigned place = 0; place < tallies[t].places; place++) {
-            if (!tallies[t].names[place])
-                continue;
-            printf("%s %s %llu", place ? "," : "", tallies[t].names[place], tallies[t].counts[place]);
-            all &= tallies[t].counts[place] != 0;
-        }
-        printf("\n");
-    }
-    return all;
+    int all = tally_print(tallies, TALLIES);
+    return short_came_up() && all;
 }
 
 /* ---- the comparison */

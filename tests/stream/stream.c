@@ -1,4 +1,5 @@
 #include <string.h>
+#include "short.h"
 #include "stream.h"
 
 /* ---- chance: sfc32, which needs neither 64 bits nor a division. Never two draws in one expression: C leaves their order to the compiler. */
@@ -53,19 +54,41 @@ static uint32_t any_descriptor(struct stream *s, uint32_t *length)
     }
 }
 
+/* a single Boolean of one byte, which a short Write sets (02, 2026-01), or what is nearly one: not single, not of one byte or no Boolean */
+static uint32_t point_descriptor(struct stream *s, uint32_t *length)
+{
+    static const struct {
+        uint16_t descriptor;
+        uint8_t length;
+    } points[] = {{0x0100, 1}, {0x0120, 1}, {0x0101, 1}, {0x0121, 1}, {0x0140, 2}, {0x0160, 4}, {0x0020, 1}, {0x0420, 1}, {0x0700, 1}};
+    uint32_t flags = below(s, 4) << 14, place = one_in(s, 2) ? below(s, 2) : below(s, sizeof points / sizeof *points);
+    *length = points[place].length;
+    return flags | points[place].descriptor;
+}
+
 static struct sds_attribute *attribute_at(struct stream *s, uint32_t place)
 {
     return (struct sds_attribute *)(s->areas.table + SDS_TABLE_RECORD * place);
 }
 
+/* what an attribute is: no network data, any network data, or a single Boolean of one byte, or nearly one */
+enum nature { PLAIN, NETWORK, POINT };
+
+static enum nature any_nature(struct stream *s, uint32_t object)
+{
+    if (one_in(s, object ? 16 : 2)) /* the short form is for object 0 */
+        return POINT;
+    return one_in(s, 2) ? PLAIN : NETWORK;
+}
+
 /* one record of a table, at this offset; gives the attribute's length */
-static uint32_t put_record(struct stream *s, struct sds_attribute *record, uint32_t object, uint32_t id, uint32_t offset)
+static uint32_t put_record(struct stream *s, struct sds_attribute *record, uint32_t object, uint32_t id, uint32_t offset, enum nature nature)
 {
     static const uint8_t usual[8] = {1, 2, 4, 6, 7, 8, 32, 255};
     uint32_t length = one_in(s, 2) ? usual[below(s, 8)] : 1 + below(s, 255);
     uint32_t access = one_in(s, 4) ? below(s, 4) : SDS_ACCESS_READ | SDS_ACCESS_WRITE, descriptor = 0;
-    if (one_in(s, 2)) {
-        descriptor = any_descriptor(s, &length);
+    if (nature != PLAIN) {
+        descriptor = nature == POINT ? point_descriptor(s, &length) : any_descriptor(s, &length);
         access |= SDS_ACCESS_NETWORK;
     }
     *record = (struct sds_attribute){
@@ -92,15 +115,17 @@ static uint32_t any_count(struct stream *s)
 /* a well-formed table; gives the length of the store that it needs */
 static uint32_t put_table(struct stream *s)
 {
-    uint32_t count = any_count(s), object = below(s, 4), id = below(s, 32), end = 0, i = 0;
-    uint32_t stay = count > SDS_OBJECTS ? 64 : 2; /* so that many records get a place among the objects */
+    uint32_t count = any_count(s), object = one_in(s, 4) ? below(s, 4) : 0, id = below(s, 32), end = 0, i = 0;
+    uint32_t front = one_in(s, 2) ? below(s, 6) : 0; /* the first object's records before one that may be network data */
+    uint32_t stay = count > SDS_OBJECTS ? 64 : 2;    /* so that many records get a place among the objects */
     for (; i < count && object < SDS_OBJECTS; i++) {
-        uint32_t length = put_record(s, attribute_at(s, i), object, id, end);
+        enum nature nature = i < front ? PLAIN : any_nature(s, object);
+        uint32_t length = put_record(s, attribute_at(s, i), object, id, end, nature);
         if (end + length > STREAM_STORE)
             break;
         end += length;
         id += 1 + below(s, 4);
-        if (one_in(s, stay) || id > 255) {
+        if ((i >= front && one_in(s, stay)) || id > 255) {
             object += 1 + below(s, 2);
             id = below(s, 32);
         }
@@ -145,11 +170,17 @@ static void new_scene(struct stream *s)
 
 enum { FLAG = 0x20 }; /* of a fragment */
 
-static void put_header(struct stream *s, uint32_t service, uint32_t dlc, uint32_t flag, uint32_t object, uint32_t id)
+/* what a frame of either form has */
+static void put_start(struct stream *s, uint32_t service, uint32_t dlc)
 {
     fill(s, s->areas.record, SDS_RECORD);
     s->areas.record[0] = (uint8_t)s->device.own;
     s->areas.record[1] = (uint8_t)(service << 5 | dlc);
+}
+
+static void put_header(struct stream *s, uint32_t service, uint32_t dlc, uint32_t flag, uint32_t object, uint32_t id)
+{
+    put_start(s, service, dlc);
     s->areas.record[2] = (uint8_t)(flag | object);
     s->areas.record[3] = (uint8_t)id;
 }
@@ -196,6 +227,12 @@ static void put_whole_write(struct stream *s)
     put_header(s, SDS_SERVICE_WRITE, 2 + length, 0, attribute->object, attribute->id);
 }
 
+/* one of the eight codes of the short form, a Write ON or OFF most times */
+static void put_short(struct stream *s)
+{
+    put_start(s, one_in(s, 2) ? below(s, SHORT_CODES) : one_in(s, 2) ? SDS_SHORT_WRITE_ON : SDS_SHORT_WRITE_OFF, 0);
+}
+
 static void put_stranger(struct stream *s)
 {
     uint32_t service = below(s, 8), dlc = below(s, 9), flag = one_in(s, 2) ? FLAG : 0, object = below(s, SDS_OBJECTS), id = below(s, 256);
@@ -205,7 +242,7 @@ static void put_stranger(struct stream *s)
 static void put_frame(struct stream *s)
 {
     static const uint8_t chances[16] = {NEXT_FRAGMENT, NEXT_FRAGMENT, NEXT_FRAGMENT, NEXT_FRAGMENT, NEXT_FRAGMENT, NEXT_FRAGMENT, NEXT_FRAGMENT,
-                                        NEXT_FRAGMENT, NEXT_FRAGMENT, FIRST_FRAGMENT, WHOLE_WRITE, WHOLE_WRITE, PLAIN_READ, PLAIN_READ, STRANGER, NOISE};
+                                        NEXT_FRAGMENT, SHORT_FORM, FIRST_FRAGMENT, WHOLE_WRITE, WHOLE_WRITE, PLAIN_READ, PLAIN_READ, STRANGER, NOISE};
     s->call.frame = chances[below(s, 16)];
     if (s->call.frame == FIRST_FRAGMENT && !one_in(s, 4))
         s->call.frame = NEXT_FRAGMENT;
@@ -222,6 +259,9 @@ static void put_frame(struct stream *s)
         put_header(s, SDS_SERVICE_READ, 2, 0, attribute->object, attribute->id);
         break;
     }
+    case SHORT_FORM:
+        put_short(s);
+        break;
     case STRANGER:
         put_stranger(s);
         break;

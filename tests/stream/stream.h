@@ -9,8 +9,8 @@
  *     }
  *
  * The stream goes in scenes. A scene is a device: an address, a table, a store, a work area cleared or full of garbage. Senders send fragmented Writes to
- * many of its objects by turns, whole Writes, Reads and noise, and a part of all calls is disturbed in one place: a bit of the frame, a byte of the table or
- * of the work area, a length, the address. It looks at no result, so it is the same stream for whatever serves it.
+ * many of its objects by turns, whole Writes, Reads, frames of the short form and noise, and a part of all calls is disturbed in one place: a bit of the
+ * frame, a byte of the table or of the work area, a length, the address. It looks at no result, so it is the same stream for whatever serves it.
  */
 #ifndef STREAM_H
 #define STREAM_H
@@ -29,7 +29,7 @@
 #define STREAM_SLACK 16
 
 enum entry { STEP, READ, WRITE, TABLE_CHECK, DESCRIPTOR_SIZE, ENTRIES };
-enum frame { NEXT_FRAGMENT, FIRST_FRAGMENT, WHOLE_WRITE, PLAIN_READ, STRANGER, NOISE, FRAMES };
+enum frame { NEXT_FRAGMENT, FIRST_FRAGMENT, WHOLE_WRITE, PLAIN_READ, SHORT_FORM, STRANGER, NOISE, FRAMES };
 enum disturbance {
     NONE, ONE_BIT, ONE_BYTE, OTHER_DLC, OTHER_NUMBER, OTHER_TOTAL, TABLE_BYTE, WORK_BYTE,
     RECORD_LENGTH, TABLE_LENGTH, STORE_LENGTH, WORK_LENGTH, OUT_LENGTH, OWN_ADDRESS, MESSAGE_BYTE, MESSAGE_LENGTH, DISTURBANCES

@@ -3,6 +3,7 @@ use mathlib.Core.Path.{_≡_, sym, _∙_}
 use denote.Ref.{now}
 use Rattle.answers.proofs.answering.refuse.Reads as refuse
 use Rattle.answers.proofs.answering.acknowledge.Reads as acknowledge
+use Rattle.answers.proofs.answering.acknowledge_short.Reads as acknowledge-short
 use Rattle.answers.proofs.answering.send_part.Reads as send-part
 
 pub refuse-determined : (κs : _) (args : _) (r r' : _) (s s' : _) → refuse.Post κs args r s → refuse.Post κs args r' s'
@@ -25,3 +26,10 @@ send-part-determined κs args r r' s s' p q = (p .0 ∙ sym (q .0), p .1 ∙ sym
 
 pub send-part-asks-nothing : (κs : _) (args : _) → send-part.Asked κs args
 send-part-asks-nothing κs args = tt
+
+pub acknowledge-short-determined : (κs : _) (args : _) (r r' : _) (s s' : _) → acknowledge-short.Post κs args r s → acknowledge-short.Post κs args r' s'
+    → now (s .1 .1 .0) ≡ now (s' .1 .1 .0)
+acknowledge-short-determined κs args r r' s s' p q = p ∙ sym q
+
+pub acknowledge-short-asks-nothing : (κs : _) (args : _) → acknowledge-short.Asked κs args
+acknowledge-short-asks-nothing κs args = tt

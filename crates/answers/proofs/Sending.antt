@@ -16,25 +16,34 @@ use Rattle.octets.specs.declared.Data.{Data}
 use Rattle.octets.specs.Data.{mostData, dataOf, tidy}
 use Rattle.octets.proofs.Datas.{data-taken, tidy-data}
 use Rattle.codec.specs.declared.Header.{Header}
-use Rattle.codec.specs.declared.Message.the-variants.{Plain}
+use Rattle.codec.specs.declared.Message.the-variants.{Short, Plain}
 use Rattle.codec.specs.declared.Subject.{Subject}
 use Rattle.codec.specs.Names.{frameSize, mostAddress, mostFragmentData, lowestLong, successful, erroneous}
-use Rattle.codec.specs.Writing.{subjectFits, frameOf, imageOf}
-use Rattle.codec.specs.Code.{longPlaces, putLong}
-use Rattle.codec.proofs.Fits.{subject-fits}
-use Rattle.codec.proofs.Images.{places-are-image}
+use Rattle.codec.specs.Writing.{subjectFits, shortFits, frameOf, imageOf}
+use Rattle.codec.specs.Code.{longPlaces, shortPlaces, putTen, putLong, putShort}
+use Rattle.codec.proofs.Fits.{subject-fits, short-fits}
+use Rattle.codec.proofs.Images.{places-are-image, short-places-are-image}
 use Rattle.guest.specs.Checks.{leastOut, fragmentBytes}
-use Rattle.guest.specs.Step.{answering, errorFrame, successFrame, fragmentPart, fragmentFrame, fragmentFrames, readFrames, flat, sent}
-use Rattle.guest.proofs.Frames.{fragment-ten, fragments-ten, fragments-count, flat-length, answering-fits}
-use Rattle.answers.specs.Code.{Answerable, answerable, single, refusedWith, acknowledgedWith, partFits, partCount, partSent}
+use Rattle.guest.specs.Step.{answering, errorFrame, successFrame, acknowledgeOf, shortFrame, fragmentPart, fragmentFrame, fragmentFrames, readFrames, flat, sent}
+use Rattle.guest.proofs.Frames.{fragment-ten, fragments-ten, fragments-count, flat-length, answering-fits, acknowledge-most}
+use Rattle.answers.specs.Code.{Answerable, answerable, single, refusedWith, acknowledgedWith, shortAcknowledged, partFits, partCount, partSent}
 
--- a record of the output, lent to the codec: the places are put there
+-- a record of the output, lent to the codec: its ten bytes are put there
+ten-there : (l : List ℕ) → length l ≡ frameSize → (out : List ℕ) (at : ℕ) → at + frameSize ≤ length out
+    → take at out ++ (putTen l (take frameSize (drop at out)) ++ drop frameSize (drop at out)) ≡ put out at l
+ten-there l ten out at h =
+    let n : length (take frameSize (drop at out)) ≡ frameSize = simp (length-take, length-drop) (omega arith) in
+    simp (eq-eqb (length (take frameSize (drop at out))) frameSize n) (part-back out l at frameSize ten)
+
 pub put-there : (u : Subject) (flag : ℕ) (d : Data) (out : List ℕ) (at : ℕ) → at + frameSize ≤ length out
     → take at out ++ (putLong u flag d (take frameSize (drop at out)) ++ drop frameSize (drop at out)) ≡ put out at (longPlaces u flag d)
 unfolding putLong longPlaces
-put-there u flag d out at h =
-    let n : length (take frameSize (drop at out)) ≡ frameSize = simp (length-take, length-drop) (omega arith) in
-    simp (eq-eqb (length (take frameSize (drop at out))) frameSize n) (part-back out (longPlaces u flag d) at frameSize refl)
+put-there u flag d out at h = ten-there (longPlaces u flag d) refl out at h
+
+pub put-short-there : (dir address service : ℕ) (out : List ℕ) → frameSize ≤ length out
+    → putShort dir address service (take frameSize out) ++ drop frameSize out ≡ put out 0 (shortPlaces dir address service)
+unfolding putShort shortPlaces
+put-short-there dir address service out h = ten-there (shortPlaces dir address service) refl out 0 h
 
 -- a frame that is put right behind the others
 pub put-next : (l m bs : List ℕ) (n : ℕ) → length l ≡ n → length bs ≤ length m → put (l ++ m) n bs ≡ (l ++ bs) ++ drop (length bs) m
@@ -149,3 +158,14 @@ module _ (own : ℕ) (h : Header) (out : List ℕ) (f : Answerable own h (length
     pub part-sent : partSent own h bs out ≡ sent (readFrames own h bs) out
     unfolding partSent
     part-sent = simp part-fits
+
+-- the acknowledge of a short Write
+short-ready : (own : ℕ) (h : Header) → own ≤ mostAddress → shortFits 1 own (acknowledgeOf h) ≡ true
+short-ready own h o = short-fits 1 own (acknowledgeOf h) .1 (record { dir = omega arith; address = o; service = acknowledge-most h })
+
+pub short-acknowledged : (own : ℕ) (h : Header) (out : List ℕ) → own ≤ mostAddress → leastOut ≤ length out
+    → shortAcknowledged own h out ≡ sent (shortFrame own h ∷ []) out
+unfolding shortAcknowledged shortFrame
+short-acknowledged own h out o room =
+    simp (le-leb frameSize (length out) (omega arith))
+    (rw (short-places-are-image 1 own (acknowledgeOf h) (short-ready own h o)) (sym (sent-one (imageOf (Short 1 own (acknowledgeOf h))) out)))

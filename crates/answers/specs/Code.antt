@@ -1,4 +1,4 @@
--- What the code puts, for every input; `refused`, `acknowledged` and `part-sent` say that of what fits it is what 01 says.
+-- What the code puts, for every input; `refused`, `acknowledged`, `short-acknowledged` and `part-sent` say that of what fits it is what 01 says.
 use Prim.Native.Nat.{ℕ, _+_, _*_, _≤_}
 use mathlib.Core.Path.{_≡_}
 use mathlib.Core.Bool.{Bool, true, cond, _&&_}
@@ -12,9 +12,9 @@ use Rattle.codec.specs.declared.Header.{Header}
 use Rattle.codec.specs.declared.Subject.{Subject}
 use Rattle.codec.specs.Names.{frameSize, mostAddress, lowestLong, successful, erroneous}
 use Rattle.codec.specs.Writing.{subjectFits}
-use Rattle.codec.specs.Code.{longPlaces}
+use Rattle.codec.specs.Code.{longPlaces, shortPlaces}
 use Rattle.guest.specs.Checks.{leastOut}
-use Rattle.guest.specs.Step.{answering, readFrames, sent}
+use Rattle.guest.specs.Step.{answering, acknowledgeOf, readFrames, sent}
 
 -- what an answer needs: an address, a service and an object that a frame carries, and room for the most frames of a reply
 pub record Answerable (own : ℕ) (h : Header) (out : ℕ) : Type 0 where
@@ -40,6 +40,10 @@ refusedWith own h number out = single own h erroneous (dataOf []) out
 -- after a Write that is done
 abbrev pub acknowledgedWith : ℕ → Header → List ℕ → List ℕ
 acknowledgedWith own h out = single own h successful (dataOf []) out
+
+-- after a short Write that is done
+unfoldable pub shortAcknowledged : ℕ → Header → List ℕ → List ℕ
+shortAcknowledged own h out = cond (leb frameSize (length out)) (put out 0 (shortPlaces 1 own (acknowledgeOf h))) out
 
 -- what fragment n of so many bytes needs: a subject that a frame carries, number and total of one byte, and room in its place
 pub record PieceReady (about : Subject) (n total out : ℕ) : Type 0 where

@@ -10,8 +10,8 @@ ghost use Rattle.codec.specs.Writing.{imageOf, subjectFits};
 ghost use Rattle.codec.specs.Code.{longPlaces};
 ghost use Rattle.codec.specs.declared.Message.the-variants.{Fragment};
 ghost use Rattle.guest.specs.Checks.{leastOut, fragmentBytes};
-ghost use Rattle.guest.specs.Step.{answering as Step·answering, fragmentFrame, fragmentFrames, fragmentCount, readFrames, sent};
-ghost use Rattle.answers.specs.Code.{Answerable, answerable as Code·answerable, single, refusedWith, acknowledgedWith, PieceReady, partCount, partSent};
+ghost use Rattle.guest.specs.Step.{answering as Step·answering, acknowledgeOf, fragmentFrame, fragmentFrames, fragmentCount, readFrames, sent};
+ghost use Rattle.answers.specs.Code.{Answerable, answerable as Code·answerable, single, refusedWith, acknowledgedWith, shortAcknowledged, PieceReady, partCount, partSent};
 use codec::ERRONEOUS;
 use codec::FRAME_SIZE;
 use codec::Header;
@@ -70,6 +70,26 @@ pub fn acknowledge(own: u8, h: Header, out: &mut [u8])
     ensures { λ _. ⌜ now (out .exit) ≡ acknowledgedWith own h (now (out .entry)) ⌝ }
 {
     send_single(own, h, SUCCESSFUL, octets::no_data(), out);
+}
+
+// The short acknowledge of a short Write (000, figure 3.4).
+fn acknowledge_of(h: Header) -> u8
+    ensures { λ r. ⌜ r ≡ acknowledgeOf h ⌝ }
+{
+    if h.service == codec::WRITE_ON {
+        return codec::WRITE_ON_ACK;
+    }
+    codec::WRITE_OFF_ACK
+}
+
+// A short Write that is done, in the form in which it came (02, 2026-01).
+pub fn acknowledge_short(own: u8, h: Header, out: &mut [u8])
+    ensures { λ _. ⌜ now (out .exit) ≡ shortAcknowledged own h (now (out .entry)) ⌝ }
+{
+    if out.len() < FRAME_SIZE {
+        return;
+    }
+    codec::put_short(1, own, acknowledge_of(h), &mut out[0..FRAME_SIZE]);
 }
 
 // Fragment n of a reply of so many bytes, with its data.

@@ -7,7 +7,7 @@ use native.Mathlib.Omega.{arith}
 use mathlib.Core.List.{List}
 use lib.Dec.{ltb, leb, eqb}
 use lib.ListN.{length, length-take, length-drop}
-use borrow.Author.Tests.{ltb-false, eqb-true, eqb-false, eq-eqb, ne-eqb, le-leb, le-ltb}
+use borrow.Author.Tests.{ltb-false, eqb-true, eqb-false, eq-eqb, ne-eqb, le-leb, lt-leb, le-ltb}
 use Rattle.laws.specs.Checks.{firstOf, holdsAt}
 use Rattle.laws.proofs.Tests.{split, not-both}
 use Rattle.laws.proofs.Checks.{none-holds}
@@ -16,7 +16,7 @@ use Rattle.octets.specs.Data.{dataOf, tidy, bytesOf}
 use Rattle.octets.proofs.Datas.{bytes-data, tidy-data}
 use Rattle.codec.specs.declared.Header.{Header}
 use Rattle.codec.specs.Fields.{headerOf}
-use Rattle.codec.specs.Reading.{headerChecks, readChecks, barred, payloadOf}
+use Rattle.codec.specs.Reading.{headerChecks, readChecks, barred, unserved, payloadOf}
 use Rattle.codec.specs.Code.{payloadData}
 
 -- every field of a header is within its bits, whatever the record
@@ -52,7 +52,15 @@ unbarred h e =
       address = ltb-false 125 (h .address) (a .1);
     }
 
--- and a long form that no check refuses
+-- a long form that check 5 lets pass
+pub long-served : (h : Header) → (h .dlc ≡ 0 → ⊥) → unserved h ≡ false → (2 ≤ h .dlc) × (4 ≤ h .service)
+long-served h z e =
+    let a = neither (eqb (h .dlc) 1) (leb 2 (h .dlc) && ltb (h .service) 4) .0 e in
+    let one = eqb-false (h .dlc) 1 (a .0) in
+    let least : 2 ≤ h .dlc = omega arith in
+    (least, ltb-false (h .service) 4 (not-both (leb 2 (h .dlc)) (ltb (h .service) 4) (a .1) (le-leb 2 (h .dlc) least)))
+
+-- and one that no check refuses
 pub record Long (h : Header) : Type 0 where
   pub least : 2 ≤ h .dlc
   pub most : h .dlc ≤ 8
@@ -63,13 +71,12 @@ pub long-of : (h : Header) → firstOf (headerChecks h) ≡ 0 → (h .dlc ≡ 0 
 unfolding holdsAt
 long-of h e z =
     let none = none-holds (headerChecks h) refl .0 e in
-    let a = neither (eqb (h .dlc) 1) (leb 2 (h .dlc) && ltb (h .service) 4) .0 (none 5) in
-    let one = eqb-false (h .dlc) 1 (a .0) in
-    let two = le-leb 2 (h .dlc) (omega arith) in
+    let five = long-served h z (none 5) in
+    let two = le-leb 2 (h .dlc) (five .0) in
     record {
-      least = omega arith;
+      least = five .0;
       most = unbarred h e .dlc;
-      service = ltb-false (h .service) 4 (not-both (leb 2 (h .dlc)) (ltb (h .service) 4) (a .1) two);
+      service = five .1;
       flagged = λ f. ltb-false (h .dlc) 4 (not-both (leb 2 (h .dlc) && eqb (h .flag) 1) (ltb (h .dlc) 4) (none 8) (simp (two, eq-eqb (h .flag) 1 f)));
     }
 
@@ -82,6 +89,9 @@ long-passes h b l s f =
     split (eqb (h .flag) 1)
     (λ e. simp (b, one, two, four, e, le-ltb (h .dlc) 4 (f (eqb-true (h .flag) 1 e))))
     (λ e. simp (b, one, two, four, e))
+
+pub short-passes : (h : Header) → barred h ≡ false → h .dlc ≡ 0 → firstOf (headerChecks h) ≡ 0
+short-passes h b z = simp (b, ne-eqb (h .dlc) 1 (omega arith), lt-leb 2 (h .dlc) (omega arith))
 
 -- a record that is read is ten bytes long, and its header passes
 pub ten-of : (r : List ℕ) → firstOf (readChecks r) ≡ 0 → (length r ≡ 10) × (firstOf (headerChecks (headerOf r)) ≡ 0)

@@ -1,6 +1,6 @@
 -- The ten bytes of a written record, one by one.
 use Prim.Native.Nat.{ℕ, suc, _+_, _-_, _%_, _≤_}
-use mathlib.Core.Path.{_≡_, sym, ap, _∙_}
+use mathlib.Core.Path.{_≡_, refl, sym, ap, _∙_}
 use mathlib.Core.Bool.{Bool, true, cond, _&&_, and-eq-true-iff}
 use mathlib.Core.List.{List, _∷_, _++_}
 use native.Mathlib.Omega.{arith}
@@ -49,6 +49,10 @@ fragment-payload n k d t =
 pub plain-length : (u : Subject) (l : List ℕ) → length l ≤ 6 → length (imageOf (Plain u (dataOf l))) ≡ 10
 unfolding imageOf frameOf
 plain-length u l h = rw (bytes-data l h) (long-length u 0 l h)
+
+pub short-length : (d a s : ℕ) → length (imageOf (Short d a s)) ≡ 10
+unfolding imageOf frameOf
+short-length d a s = refl
 
 pub fragment-length : (u : Subject) (n k : ℕ) (l : List ℕ) → length l ≤ 4 → length (imageOf (Fragment u n k (dataOf l))) ≡ 10
 unfolding imageOf frameOf

@@ -18,7 +18,7 @@ use Rattle.codec.specs.declared.Subject.{Subject}
 use Rattle.codec.specs.declared.Answer.the-variants.{Got}
 use Rattle.codec.specs.declared.Message.the-variants.{Plain, Fragment}
 use Rattle.codec.specs.Fields.{headerOf}
-use Rattle.codec.specs.Reading.{headerChecks, readChecks, subjectOf, payloadTo, payloadOf, longOf, messageOf, readOf}
+use Rattle.codec.specs.Reading.{headerChecks, readChecks, subjectOf, payloadTo, payloadOf, shortOf, longOf, messageOf, readOf}
 use Rattle.codec.specs.Writing.{subjectFits, longFrame, frameOf, carried}
 use Rattle.codec.specs.Code.{payloadData, unprefixed}
 use Rattle.codec.proofs.Headers.{long-passes, payload-read}
@@ -29,6 +29,10 @@ use Rattle.codec.proofs.Images.{long-padded, long-length, data-unprefix
 pub got : (r : List ℕ) → length r ≡ 10 → firstOf (headerChecks (headerOf r)) ≡ 0 → readOf r ≡ Got (messageOf r)
 unfolding readOf
 got r n e = simp (eq-eqb (length r) 10 n, e)
+
+pub message-short : (r : List ℕ) → headerOf r .dlc ≡ 0 → messageOf r ≡ shortOf (headerOf r)
+unfolding messageOf
+message-short r z = simp (eq-eqb (headerOf r .dlc) 0 z)
 
 pub message-long : (r : List ℕ) (h : Header) → headerOf r ≡ h → (h .dlc ≡ 0 → ⊥)
     → messageOf r ≡ longOf (subjectOf h) (h .flag) (payloadTo (h .dlc) r)

@@ -187,6 +187,10 @@ image-octets (Fragment u n k b) o e =
 
 -- ---- messages made of lists of bytes, for who answers
 
+pub short-carried : (d a s : ℕ) → ShortFits d a s → carried (Short d a s) ≡ true
+unfolding carried
+short-carried d a s f = short-fits d a s .1 f
+
 pub plain-carried : (u : Subject) (l : List ℕ) → SubjectFits u → length l ≤ 6 → carried (Plain u (dataOf l)) ≡ true
 unfolding carried
 plain-carried u l f h = simp (subject-fits u .1 f, tidy-data l h 6 h)

@@ -22,6 +22,31 @@ mostFragmentData = mostData - 2
 abbrev pub lowestLong : ℕ
 lowestLong = 4
 
+-- short form service types (figure 3.4)
+abbrev pub changeOff : ℕ
+changeOff = 0
+
+abbrev pub changeOn : ℕ
+changeOn = 1
+
+abbrev pub changeOffAck : ℕ
+changeOffAck = 2
+
+abbrev pub changeOnAck : ℕ
+changeOnAck = 3
+
+abbrev pub writeOff : ℕ
+writeOff = 4
+
+abbrev pub writeOn : ℕ
+writeOn = 5
+
+abbrev pub writeOffAck : ℕ
+writeOffAck = 6
+
+abbrev pub writeOnAck : ℕ
+writeOnAck = 7
+
 -- long form service types (figure 3.6)
 abbrev pub writeService : ℕ
 writeService = 4

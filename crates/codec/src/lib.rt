@@ -29,6 +29,23 @@ pub const MOST_FRAGMENT_DATA: u8 = octets::MOST - 2;
 // The lowest service type of a long form that the codec reads (01, "Frame record").
 pub const LOWEST_LONG: u8 = 4;
 
+// Short form service types (000, figure 3.4).
+pub const CHANGE_OFF: u8 = 0;
+
+pub const CHANGE_ON: u8 = 1;
+
+pub const CHANGE_OFF_ACK: u8 = 2;
+
+pub const CHANGE_ON_ACK: u8 = 3;
+
+pub const WRITE_OFF: u8 = 4;
+
+pub const WRITE_ON: u8 = 5;
+
+pub const WRITE_OFF_ACK: u8 = 6;
+
+pub const WRITE_ON_ACK: u8 = 7;
+
 // Long form service types (000, figure 3.6).
 pub const WRITE_SERVICE: u8 = 4;
 

@@ -2,13 +2,15 @@
 use Prim.Native.Nat.{ℕ, _+_, _≤_, _<_}
 use mathlib.Core.Path.{_≡_, refl, ap, _∙_}
 use mathlib.Core.Logic.{_↔_, _≢_}
+use mathlib.Core.Bool.{not}
 use mathlib.Core.List.{List, [], _∷_, _++_, append-nil}
 use native.Mathlib.Omega.{arith}
 use lib.ListN.{length, drop}
 use lib.Seq.{take-at, drop-at}
+use borrow.Author.Tests.{not-true}
 use Rattle.laws.specs.Checks.{firstOf, holdsAt, FirstAt}
 use Rattle.laws.proofs.Checks.{given-exactly, none-holds, first-most, holds-append}
-use Rattle.laws.proofs.Tests.{clash}
+use Rattle.laws.proofs.Tests.{clash, halves}
 use Rattle.laws.proofs.Put.{length-put, put-front}
 use Rattle.codec.specs.Fields.{headerOf}
 use Rattle.codec.specs.Reading.{messageOf}
@@ -16,7 +18,7 @@ use Rattle.codec.proofs.Headers.{ranged}
 use Rattle.join.specs.Work.{recordSize, areaSize, base, dropped}
 use Rattle.join.proofs.Places.{base-inside}
 use Rattle.join.proofs.Records.{dropped-length, dropped-status, dropped-others}
-use Rattle.guest.specs.Checks.{leastOut, outOfOrder, soughtIn, planChecks}
+use Rattle.guest.specs.Checks.{leastOut, inShort, outOfOrder, soughtIn, planChecks}
 use Rattle.guest.specs.Step.{areas, sent, Call, settingOf, Outcome, outcome, outcomeOf, stepOf}
 use Rattle.guest.proofs.Plans.{Accepted, accepted, unrefused-by}
 use Rattle.guest.proofs.Numbers.{number-is, no-thirteen}
@@ -102,8 +104,9 @@ module _ (c : Call) where
   never e =
       let s = settingOf c in
       let f = exactly 13 (omega arith) .0 e in
-      let u = unrefused-by s (c .frame) (λ n h. holds-append (planChecks s (c .frame)) ((outOfOrder (messageOf (c .frame)) (c .given .work), 14) ∷ []) n (f .1 n h)) in
-      clash {P = ⊥} (f .0) (no-thirteen s (c .frame) u (soughtIn (c .table) (headerOf (c .frame))) refl)
+      let row = halves (not (inShort (headerOf (c .frame)))) (f .0) in
+      let u = unrefused-by s (c .frame) (not-true _ (row .0)) (λ n h. holds-append (planChecks s (c .frame)) ((outOfOrder (messageOf (c .frame)) (c .given .work), 14) ∷ []) n (f .1 n h)) in
+      clash {P = ⊥} (row .1) (no-thirteen s (c .frame) u (soughtIn (c .table) (headerOf (c .frame))) refl)
 
 pub demand-1 : Demand1 stepOf
 demand-1 = record {

@@ -1,37 +1,43 @@
 -- Demand 2 is met (specs/Demand2), and what the codec and the frames of an answer promise by themselves.
 use Prim.Native.Nat.{ℕ, _*_, _≤_, _<_}
-use mathlib.Core.Path.{_≡_, refl, _∙_}
-use mathlib.Core.Bool.{false, cond}
+use mathlib.Core.Path.{_≡_, refl, ap, _∙_}
+use mathlib.Core.Bool.{true, false, cond, not, or-false}
+use mathlib.Mathlib.Data.Bool.Basic.{or-eq-false-eq-eq-false-and-eq-false as neither}
 use mathlib.Core.List.{List, [], _∷_, _++_}
 use native.Mathlib.Omega.{arith}
 use lib.ListN.{length, getD, drop}
 use lib.Seq.{take-at, drop-at}
-use lib.Dec.{leb}
+use lib.Dec.{eqb, leb}
+use borrow.Author.Tests.{eqb-true, eqb-false, not-false}
 use Rattle.laws.specs.Bytes.{Bytes}
 use Rattle.laws.specs.Checks.{firstOf, holdsAt}
-use Rattle.laws.proofs.Put.{put-front}
+use Rattle.laws.proofs.Put.{put-front, one-put, one-beside}
+use Rattle.laws.proofs.Tests.{split}
 use Rattle.laws.proofs.Checks.{none-holds, holds-append}
 use Rattle.octets.specs.declared.Data.{Data}
 use Rattle.octets.specs.Data.{mostData, dataOf}
 use Rattle.codec.specs.declared.Header.{Header}
+use Rattle.codec.specs.declared.Answer.{Answer}
 use Rattle.codec.specs.declared.Answer.the-variants.{Got}
 use Rattle.codec.specs.declared.Message.{Message}
-use Rattle.codec.specs.declared.Message.the-variants.{Plain, Fragment}
-use Rattle.codec.specs.Names.{mostAddress, lowestLong, successful, erroneous}
-use Rattle.codec.specs.Reading.{messageOf, readOf}
+use Rattle.codec.specs.declared.Message.the-variants.{Short, Plain, Fragment}
+use Rattle.codec.specs.Names.{mostAddress, writeOff, writeOn, lowestLong, successful, erroneous}
+use Rattle.codec.specs.Fields.{headerOf}
+use Rattle.codec.specs.Reading.{shortOf, messageOf, readOf}
 use Rattle.codec.specs.Writing.{writeNumber, writtenOf, clearedOf}
+use Rattle.codec.proofs.Headers.{ranged}
 use Rattle.codec.proofs.Promises as codec
 use Rattle.table.specs.declared.Attribute.{Attribute}
 use Rattle.table.proofs.Tables.{part-whole}
 use Rattle.join.specs.Work.{lost}
 use Rattle.guest.specs.declared.Plan.the-variants.{Join}
-use Rattle.guest.specs.Checks.{outOfOrder, planChecks, pieceOf}
-use Rattle.guest.specs.Step.{asks, judgedOf, joinedIn, answering, errorFrame, successFrame, fragmentPart, fragmentCount, readFrames, replyTo, flat, sent, Call, settingOf, outcomeOf, stepOf}
+use Rattle.guest.specs.Checks.{notForUs, shortWrite, outOfOrder, planChecks, pieceOf}
+use Rattle.guest.specs.Step.{Judged, asks, stateOf, judgedOf, short, write, effectOf, joinedIn, perform, answering, errorFrame, successFrame, acknowledgeOf, shortFrame, fragmentPart, fragmentCount, readFrames, replyTo, flat, sent, Call, settingOf, Outcome, outcomeOf, stepOf}
 use Rattle.guest.specs.Frames.{dataOfFrames}
-use Rattle.guest.proofs.Plans.{ServedBy, by-read, by-write, by-join, served-by}
-use Rattle.guest.proofs.Frames.{reply-tens, reply-count, flat-length, whole-reads, nth-reads, read-data, read-count, error-reads, success-reads}
+use Rattle.guest.proofs.Plans.{ServedBy, by-switch, by-read, by-write, by-join, served-by}
+use Rattle.guest.proofs.Frames.{reply-tens, reply-count, flat-length, whole-reads, nth-reads, read-data, read-count, error-reads, success-reads, short-reads}
 use Rattle.demands.specs.Demand1.{checksOf}
-use Rattle.demands.specs.Demand2.{framesFor, Sent, Served, read, written, fragment, Demand2}
+use Rattle.demands.specs.Demand2.{framesFor, Sent, leftBy, Served, switched, read, written, fragment, Demand2}
 use Rattle.demands.proofs.Demand1.{demand-1}
 
 -- ---- the codec, alone
@@ -45,7 +51,13 @@ pub read-is-written : (r : List ℕ) (m : Message) → Bytes r → readOf r ≡ 
     → (s : List ℕ) → length s ≡ 10 → (writeNumber m s ≡ 0) × (writtenOf m s ≡ clearedOf r)
 read-is-written = codec.read-is-written
 
--- ---- what the frames of an answer say: own address, service, object and ID are those that the checks let through
+-- ---- what the frames of an answer say
+
+-- the short acknowledge of a short Write, as the message that was meant
+pub short-acknowledge-says : (own : ℕ) (h : Header) → own ≤ mostAddress → readOf (shortFrame own h) ≡ Got (Short 1 own (acknowledgeOf h))
+short-acknowledge-says = short-reads
+
+-- the others: own address, service, object and ID are those that the checks let through
 
 module _ (own : ℕ) (h : Header) (o : own ≤ mostAddress) (l : lowestLong ≤ h .service) (m : h .service ≤ 7) (b : h .object ≤ 31) where
   -- an error frame reads as Error, flag clear, no data
@@ -104,11 +116,42 @@ module _ (c : Call) where
   unfolding stepOf outcomeOf replyTo
   lost-is-fourteen a number total b p q = rw (p, q)
 
+  -- a frame of our address that is a short Write, as the codec reads it
+  short-says : (h : Header) → notForUs (c .own) h ≡ false → h .dir ≤ 1 → shortWrite h ≡ true
+      → shortOf h ≡ Short 0 (c .own) (cond (eqb (h .service) writeOn) writeOn writeOff)
+  short-says h ours most asked =
+      let four = neither (eqb (h .dir) 1) (not (eqb (h .address) (c .own))) .0 ours in
+      let dir : h .dir ≡ 0 = omega (arith, eqb-false (h .dir) 1 (four .0)) in
+      let address = eqb-true (h .address) (c .own) (not-false _ (four .1)) in
+      let service : h .service ≡ cond (eqb (h .service) writeOn) writeOn writeOff =
+      split (eqb (h .service) writeOn)
+      (λ t. simp t (eqb-true (h .service) writeOn t))
+      (λ t. simp t (eqb-true (h .service) writeOff (simp (t, or-false) at asked))) in
+      rw (dir, address) (ap (Short 0 (c .own)) service)
+
   served-so : ((n : ℕ) → holdsAt (checksOf c) n ≡ false) → Served c (stepOf c)
-  unfolding stepOf
+  unfolding stepOf outcomeOf perform replyTo holdsAt shortFrame
   served-so free = go (served-by (settingOf c) (c .frame) (passes free))
     where
       go : ServedBy (settingOf c) (c .frame) → Served c (stepOf c)
+      go (by-switch a m z p) =
+          let at = a .offset in
+          let state = stateOf (headerOf (c .frame)) in
+          let inside : at < length (c .given .store) = omega (arith, z .place .inside, z .one) in
+          let leaves : stepOf c ≡ leftBy (write a (state ∷ []) short) c = rw p in
+          switched (record {
+            attribute = a;
+            on = eqb (headerOf (c .frame) .service) writeOn;
+            says = m ∙ ap {B = Answer} Got (short-says (headerOf (c .frame)) (free 4) (ranged (c .frame) .dir) (z .asked));
+            first = z .found;
+            single = z .single;
+            may = z .may;
+            takes = ap (λ (o : Outcome). getD (o .left .store) at 0) leaves ∙ one-put (c .given .store) at state inside;
+            others = λ i e. ap (λ (o : Outcome). getD (o .left .store) i 0) leaves ∙ one-beside (c .given .store) at state inside i e;
+            same-work = ap (λ (o : Outcome). o .left .work) leaves;
+            acknowledged = ap (λ (j : Judged). replyTo (c .own) (headerOf (c .frame)) (effectOf (joinedIn (c .given .work)) j) (c .given .store) .frames) p;
+            leaves = leaves;
+          })
       go (by-read a t z p) = read (record {
         attribute = a;
         asked = t;

@@ -3,18 +3,23 @@ use Prim.Native.Nat.{ℕ, _*_, _≤_}
 use mathlib.Core.Path.{_≡_, refl, ap, _∙_}
 use mathlib.Core.Logic.{_↔_}
 use mathlib.Core.Bool.{true}
+use mathlib.Core.Option.{none, some}
 use mathlib.Core.List.{List, reverse}
 use native.Mathlib.Omega.{arith}
 use lib.ListN.{length, getD, take, replicate, length-replicate, getD-replicate}
+use Rattle.laws.specs.Bytes.{byteAt}
+use Rattle.laws.specs.Checks.{firstOf}
 use Rattle.laws.specs.Mixing.{run}
 use Rattle.laws.proofs.Mixing.{Local, mixed, in-series, in-turn, free-anywhere, local-as, run-as}
+use Rattle.codec.specs.Fields.{headerOf}
 use Rattle.join.specs.Work.{recordCount, areaSize, base, Piece, load}
 use Rattle.join.specs.History.{completes, Completes}
 use Rattle.join.proofs.Places.{base-inside}
 use Rattle.join.proofs.Joins.{completes-in-words}
-use Rattle.guest.specs.Checks.{Setting, joiner}
-use Rattle.guest.specs.Step.{Areas, flat, next, answer, call, setting, outcomeOf, stepOf}
+use Rattle.guest.specs.Checks.{Setting, inShort, joiner, planChecks}
+use Rattle.guest.specs.Step.{judgedOf, Areas, flat, next, answer, ownerOf, call, setting, outcomeOf, stepOf}
 use Rattle.guest.specs.Belongs.{Same, Good}
+use Rattle.guest.proofs.Short.{served-owner, refused-owner, same-judged, same-answer}
 use Rattle.guest.proofs.Mixed.{device-local, owner-below}
 use Rattle.guest.proofs.Shown.{since, run-since, store-shown, answer-shown}
 use Rattle.demands.specs.Demand3.{seen, after, answered, its, whose, Mixes, Demand3}
@@ -78,3 +83,19 @@ demand-3 own table out x start = mixes own table out x start
 -- "completes" is what 01 says: "the m frames just before it in that list carry numbers 0 to m-1, the same ID and the same total"
 pub completes-as-01-says : (h : List Piece) (p : Piece) → (completes joiner h p ≡ true) ↔ Completes joiner h p
 completes-as-01-says h p = completes-in-words joiner h p
+
+-- ---- frames in short form (02, 2026-01: "In demand 3 such a frame is one of object 0's and a whole write")
+
+module _ (s : Setting) (r : List ℕ) (l : inShort (headerOf r) ≡ true) where
+  -- one that is served is object 0's, whatever object its third byte would name
+  pub served-short-is-object-0s : firstOf (planChecks s r) ≡ 0 → ownerOf s r ≡ some 0
+  served-short-is-object-0s = served-owner s r l
+
+  -- one that is refused is nobody's
+  pub refused-short-is-nobodys : (firstOf (planChecks s r) ≡ 0 → ⊥) → ownerOf s r ≡ none
+  refused-short-is-nobodys = refused-owner s r l
+
+  -- nothing behind its first two bytes is looked at: a record of the same length that agrees in those is judged the same, and answered the same
+  pub short-is-two-bytes : (t : List ℕ) → length t ≡ length r → byteAt t 0 ≡ byteAt r 0 → byteAt t 1 ≡ byteAt r 1
+      → (judgedOf s t ≡ judgedOf s r) × ((x : Areas) → answer s t x ≡ answer s r x)
+  short-is-two-bytes t n e0 e1 = (same-judged s r t n e0 e1 l, same-answer s r t n e0 e1 l)

@@ -23,7 +23,7 @@ use Rattle.join.specs.History.{chain, gather, message}
 use Rattle.guest.specs.Step.{Areas, areas, Call, Outcome, outcome, outcomeOf}
 use Rattle.guest.specs.History.{shown}
 use Rattle.demands.specs.Demand1.{Device, checksOf}
-use Rattle.demands.specs.Demand2.{framesFor, Served, read, written, fragment, Demand2}
+use Rattle.demands.specs.Demand2.{framesFor, Served, switched, read, written, fragment, Demand2}
 use Rattle.demands.specs.Demand3.{after, Demand3}
 use Rattle.demands.specs.Sample.{sampleTable, fresh, freshOut, sample, toSample}
 use Rattle.demands.specs.Cases.{p1, p1Answer, p1Store, tagFragment}
@@ -60,6 +60,7 @@ module _ (D : Device) (meets : Demand2 D) where
   p1-met = go (meets .serves atP1 unrefused)
     where
       go : Served atP1 (D atP1) → D atP1 ≡ afterP1
+      go (switched z) = let q : _≡_ {A = ℕ} 2 0 = ap (λ (m : Answer). length (plainBytes m)) (z .says) in absurd (omega arith)
       go (read z) = let q : _≡_ {A = ℕ} 4 5 = z .asked in absurd (omega arith)
       go (written z) =
           let at : z .attribute .offset ≡ 33 = ap offsetOf (sym (z .named)) in

@@ -4,8 +4,9 @@ use mathlib.Core.List.{List, [], _∷_, _++_, map, flatMap}
 use Rattle.laws.specs.Bytes.{upFrom}
 use Rattle.laws.specs.Put.{put}
 use Rattle.laws.specs.Mixing.{run, trace}
-use Rattle.guest.specs.Step.{Areas, areas, Reply, reply, next, answer}
-use Rattle.demands.specs.Sample.{sample, fresh}
+use Rattle.guest.specs.Checks.{Setting}
+use Rattle.guest.specs.Step.{Areas, areas, setting, Reply, reply, next, answer}
+use Rattle.demands.specs.Sample.{sample, fresh, freshOut}
 
 -- a record, byte by byte
 abbrev pub frame : ℕ → ℕ → ℕ → ℕ → ℕ → ℕ → ℕ → ℕ → ℕ → ℕ → List ℕ
@@ -102,3 +103,29 @@ tagFragment object b n =
 -- "Fragments 0 to 7 to object 2 and to object 3 by turns"
 unfoldable pub byTurns : List (List ℕ)
 byTurns = flatMap (λ n. tagFragment 2 0x41 n ∷ tagFragment 3 0x61 n ∷ []) (upFrom 0 8)
+
+-- ---- a photo-eye: object 0 is one Boolean, which may be read and written
+
+-- the table of such a device, whose address is that of 000's example; its byte holds neither state before
+unfoldable pub eyeTable : List ℕ
+eyeTable = 0x00 ∷ 0x13 ∷ 0x07 ∷ 0x01 ∷ 0x00 ∷ 0x00 ∷ 0x00 ∷ 0x81 ∷ []
+
+unfoldable pub eyeFresh : Areas
+eyeFresh = areas (0x55 ∷ []) (fresh .work)
+
+unfoldable pub eye : Setting
+eye = setting 36 eyeTable eyeFresh freshOut
+
+-- 000, 5.1.3: Write ON to address 36; and Write OFF
+abbrev pub writeOnTo36 : List ℕ
+writeOnTo36 = frame 0x24 0xA0 0x00 0x00 0x00 0x00 0x00 0x00 0x00 0x00
+
+abbrev pub writeOffTo36 : List ℕ
+writeOffTo36 = frame 0x24 0x80 0x00 0x00 0x00 0x00 0x00 0x00 0x00 0x00
+
+-- 000, 5.1.4: its acknowledge, "Write ON State ACK"; and that of Write OFF
+abbrev pub writeOnAckFrom36 : List ℕ
+writeOnAckFrom36 = frame 0xA4 0xE0 0x00 0x00 0x00 0x00 0x00 0x00 0x00 0x00
+
+abbrev pub writeOffAckFrom36 : List ℕ
+writeOffAckFrom36 = frame 0xA4 0xC0 0x00 0x00 0x00 0x00 0x00 0x00 0x00 0x00

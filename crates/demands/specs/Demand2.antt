@@ -6,25 +6,26 @@
 use Prim.Native.Nat.{ℕ, _*_, _≤_}
 use mathlib.Core.Path.{_≡_}
 use mathlib.Core.Logic.{_≢_}
-use mathlib.Core.Bool.{false}
-use mathlib.Core.List.{List}
-use lib.ListN.{length, take, drop}
+use mathlib.Core.Bool.{Bool, true, false, cond}
+use mathlib.Core.List.{List, [], _∷_}
+use lib.ListN.{length, getD, take, drop}
 use Rattle.laws.specs.Checks.{holdsAt}
 use Rattle.octets.specs.declared.Data.{Data}
 use Rattle.octets.specs.Data.{bytesOf}
 use Rattle.codec.specs.declared.Subject.{Subject}
-use Rattle.codec.specs.declared.Message.the-variants.{Plain, Fragment}
+use Rattle.codec.specs.declared.Message.the-variants.{Short, Plain, Fragment}
 use Rattle.codec.specs.declared.Answer.the-variants.{Got}
-use Rattle.codec.specs.Names.{readService, writeService}
+use Rattle.codec.specs.Names.{writeOff, writeOn, writeOffAck, writeOnAck, writeService, readService}
 use Rattle.codec.specs.Fields.{headerOf}
 use Rattle.codec.specs.Reading.{readOf}
+use Rattle.codec.specs.Writing.{imageOf}
 use Rattle.table.specs.declared.Attribute.{Attribute}
 use Rattle.table.specs.declared.Found.the-variants.{At}
-use Rattle.table.specs.Table.{find, partOf}
+use Rattle.table.specs.Table.{writable, find, firstNetwork, singleBoolean, partOf}
 use Rattle.join.specs.Work.{Joined, lost}
 use Rattle.join.specs.History.{Shaped}
 use Rattle.guest.specs.Checks.{joiner, pieceOf}
-use Rattle.guest.specs.Step.{Effect, show, write, joinEffect, joinedIn, answer, flat, Call, settingOf, Outcome, outcomeOf}
+use Rattle.guest.specs.Step.{plain, short, Effect, show, write, joinEffect, joinedIn, answer, flat, Call, settingOf, Outcome, outcomeOf}
 use Rattle.guest.specs.Frames.{Tens}
 use Rattle.demands.specs.Demand1.{Device, checksOf}
 
@@ -65,7 +66,7 @@ pub record ServedWrite (c : Call) (o : Outcome) : Type 0 where
   pub says : readOf (c .frame) ≡ Got (Plain about body)
   pub named : Names c attribute
   pub whole : length (bytesOf body) ≡ attribute .len
-  pub leaves : o ≡ leftBy (write attribute (bytesOf body) false) c
+  pub leaves : o ≡ leftBy (write attribute (bytesOf body) plain) c
 
 -- a fragment of a Write: kept in the work area with no frame, or completing its message
 pub record ServedFragment (c : Call) (o : Outcome) : Type 0 where
@@ -84,7 +85,23 @@ pub record ServedFragment (c : Call) (o : Outcome) : Type 0 where
   pub in-order : joins ≢ lost
   pub leaves : o ≡ leftBy (joinEffect attribute (pieceOf (attribute .id) number total body) joins) c
 
+-- a short Write (02, 2026-01): "sets the first network record of object 0 to 1 or 0 .. and gets 000's short acknowledge of that Write". One byte of the
+-- store alters, and nothing of the work area
+pub record ServedShort (c : Call) (o : Outcome) : Type 0 where
+  pub attribute : Attribute
+  pub on : Bool
+  pub says : readOf (c .frame) ≡ Got (Short 0 (c .own) (cond on writeOn writeOff))
+  pub first : firstNetwork (c .table) 0 ≡ At attribute
+  pub single : singleBoolean attribute ≡ true
+  pub may : writable attribute ≡ true
+  pub takes : getD (o .left .store) (attribute .offset) 0 ≡ cond on 1 0
+  pub others : (i : ℕ) → i ≢ attribute .offset → getD (o .left .store) i 0 ≡ getD (c .given .store) i 0
+  pub same-work : o .left .work ≡ c .given .work
+  pub acknowledged : framesFor c ≡ imageOf (Short 1 (c .own) (cond on writeOnAck writeOffAck)) ∷ []
+  pub leaves : o ≡ leftBy (write attribute (cond on 1 0 ∷ []) short) c
+
 pub data Served (c : Call) (o : Outcome) : Type 0 where
+  switched : ServedShort c o → Served c o
   read : ServedRead c o → Served c o
   written : ServedWrite c o → Served c o
   fragment : ServedFragment c o → Served c o

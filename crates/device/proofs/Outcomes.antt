@@ -1,12 +1,12 @@
 -- What carrying out a plan leaves, from what each part of it leaves; and so a call.
-use Prim.Native.Nat.{ℕ, _+_, _≤_}
-use mathlib.Core.Path.{_≡_, ap, sym, subst, _∙_}
+use Prim.Native.Nat.{ℕ, _+_, _<_, _≤_}
+use mathlib.Core.Path.{_≡_, refl, ap, sym, subst, _∙_}
 use mathlib.Core.Bool.{Bool, true, false, cond, not}
 use mathlib.Core.List.{List, [], _∷_}
 use native.Mathlib.Omega.{arith}
 use lib.ListN.{length}
 use lib.Dec.{ltb}
-use borrow.Author.Tests.{lt-ltb, not-true, not-false}
+use borrow.Author.Tests.{lt-ltb, eq-eqb, ne-eqb, not-true, not-false}
 use Rattle.laws.specs.Checks.{firstOf}
 use Rattle.laws.proofs.Put.{put-nothing}
 use Rattle.octets.specs.declared.Data.{Data}
@@ -15,24 +15,28 @@ use Rattle.codec.specs.declared.Header.{Header}
 use Rattle.codec.specs.Names.{mostAddress}
 use Rattle.codec.specs.Fields.{headerOf}
 use Rattle.table.specs.declared.Attribute.{Attribute}
+use Rattle.table.specs.declared.Found.{Found}
+use Rattle.table.specs.declared.Found.the-variants.{At, Nothing}
 use Rattle.table.specs.Table.{wellFormed, partOf}
+use Rattle.table.proofs.Tables.{network-placed, single-byte}
 use Rattle.join.specs.Work.{recordSize, base, load, astray, last, Joined, kept, done, lost, joined, dropped}
 use Rattle.join.proofs.Places.{base-inside}
 use Rattle.join.proofs.Parts.{astray-any, held-part}
 use Rattle.guest.specs.declared.Plan.{Plan}
 use Rattle.guest.specs.declared.Plan.the-variants.{Error, Read, Write, Join}
-use Rattle.guest.specs.Checks.{misfit, joiner, pieceOf}
-use Rattle.guest.specs.Step.{asks, judgedOf, joinEffect, joinedIn, areas, perform, replyTo, Call, settingOf, Outcome, outcome, outcomeOf, stepOf}
+use Rattle.guest.specs.Checks.{misfit, illFormed, inShort, joiner, pieceOf}
+use Rattle.guest.specs.Step.{asks, stateOf, judgedOf, joinEffect, joinedIn, areas, perform, replyTo, Call, settingOf, Outcome, outcome, outcomeOf, stepOf}
+use Rattle.guest.proofs.Plans.{accepted}
 use Rattle.guest.proofs.Effects.{ignored, refused-only, refused-dropping}
 use Rattle.guest.proofs.Frames.{part-most}
-use Rattle.judge.specs.Code.{routeChecks, quietChecks, planByService}
-use Rattle.judge.proofs.Groups.{quiet-judged, request-planned}
-use Rattle.answers.specs.Code.{Answerable, refusedWith, acknowledgedWith, partCount, partSent}
-use Rattle.answers.proofs.Sending.{refused, acknowledged, part-count, part-sent}
-use Rattle.writes.specs.Code.{JoinReady, joinedBytes, storedData, storedJoined, keptPiece}
-use Rattle.writes.proofs.Storing.{data-stored, message-stored, piece-kept}
-use Rattle.device.specs.Code.{Ready, carriedOut}
-use Rattle.device.proofs.Ready.{ready, own-most}
+use Rattle.judge.specs.Code.{quietChecks, routeChecks, pointFor, planByService}
+use Rattle.judge.proofs.Groups.{quiet-judged, point-found, routed-first, long-routed, short-routed, request-planned}
+use Rattle.answers.specs.Code.{Answerable, refusedWith, acknowledgedWith, shortAcknowledged, partCount, partSent}
+use Rattle.answers.proofs.Sending.{refused, acknowledged, short-acknowledged, part-count, part-sent}
+use Rattle.writes.specs.Code.{JoinReady, joinedBytes, storedData, storedState, storedJoined, keptPiece}
+use Rattle.writes.proofs.Storing.{data-stored, state-stored, message-stored, piece-kept}
+use Rattle.device.specs.Code.{Ready, carriedOut, SwitchReady, switchedOut}
+use Rattle.device.proofs.Ready.{ready}
 
 -- ---- a fragment, by what the code's tests find
 
@@ -110,6 +114,24 @@ module _ (p : Plan) (own : ℕ) (h : Header) (store work out : List ℕ) (r : Re
       let f = ready-as (Write a b) e in
       rw (e, c, data-stored a b store (f .1), s, acknowledged own h out (f .0))
 
+-- ---- a short form
+
+module _ (table : List ℕ) (own : ℕ) (h : Header) (store out : List ℕ) (f : Found) (e : f ≡ pointFor table h) (work : List ℕ) where
+  abbrev switches-to : Outcome
+  switches-to = switchedOut table own h (areas store work) out
+
+  pub untaken-outcome : f ≡ Nothing → outcome 5 0 (areas store work) out ≡ switches-to
+  untaken-outcome n = rw (← e, n) (sym (ignored own h (areas store work) out 5))
+
+  pub switch-outcome : SwitchReady own table (length store) (length out) → (a : Attribute) → f ≡ At a → (state : ℕ) → state ≡ stateOf h
+      → (x o : List ℕ) → x ≡ storedState a state store → o ≡ shortAcknowledged own h out → outcome 0 1 (areas x work) o ≡ switches-to
+  unfolding outcomeOf perform replyTo
+  switch-outcome r a n state is x o c s =
+      let point = point-found table h a (sym e ∙ n) in
+      let place = network-placed table (length store) 0 a (r .well) (point .0) in
+      let inside : a .offset < length store = omega (arith, place .inside, single-byte a (point .1)) in
+      rw (← e, n, c, s, state-stored a state store inside, short-acknowledged own h out (r .address) (r .room), is)
+
 -- ---- a call
 
 module _ (c : Call) where
@@ -128,27 +150,47 @@ module _ (c : Call) where
       pub ill-formed-outcome : not w ≡ true → outcome 2 0 (c .given) (c .out) ≡ stepOf c
       ill-formed-outcome t = quiet-outcome 2 (simp (sym me ∙ fits, sym we ∙ not-true w t)) (λ q. omega (arith, q))
 
-      module _ (good : not w ≡ false) (h : Header) (he : h ≡ headerOf (c .frame)) (n : ℕ) (ne : n ≡ firstOf (routeChecks (c .own) h)) where
-        first : n ≡ firstOf (quietChecks (settingOf c) (c .frame))
-        first = simp (sym me ∙ fits, sym we ∙ not-false w good) (rw he at ne)
+      module _ (good : not w ≡ false) where
+        fitting : misfit (settingOf c) (c .frame) ≡ false
+        fitting = sym me ∙ fits
 
-        pub unrouted-outcome : (n ≡ 0 → ⊥) → outcome n 0 (c .given) (c .out) ≡ stepOf c
-        unrouted-outcome = quiet-outcome n first
+        formed : illFormed (settingOf c) ≡ false
+        formed = ap not (sym we) ∙ good
 
-        module _ (z : n ≡ 0) where
-          passes : firstOf (quietChecks (settingOf c) (c .frame)) ≡ 0
-          passes = sym first ∙ z
+        pub own-byte : c .own ≤ mostAddress
+        own-byte = accepted (settingOf c) (c .frame) fitting .own
 
-          pub own-byte : c .own ≤ mostAddress
-          own-byte = own-most (settingOf c) (c .frame) passes
+        pub switch-ready : SwitchReady (c .own) (c .table) (length (c .given .store)) (length (c .out))
+        switch-ready = record { address = own-byte; well = not-false _ formed; room = accepted (settingOf c) (c .frame) fitting .out }
 
-          module _ (p : Plan) (pe : p ≡ planByService (c .table) h (c .frame)) where
-            asked : judgedOf (settingOf c) (c .frame) ≡ asks p
-            asked = request-planned (settingOf c) (c .frame) passes h he p pe
+        module _ (h : Header) (he : h ≡ headerOf (c .frame)) (n : ℕ) (ne : n ≡ firstOf (routeChecks (c .own) h)) where
+          routed : n ≡ firstOf (routeChecks (c .own) (headerOf (c .frame)))
+          routed = rw he at ne
 
-            pub step-ready : Ready p (c .own) h (length (c .given .store)) (length (c .given .work)) (length (c .out))
-            step-ready = rw he (ready (settingOf c) (c .frame) passes p asked)
+          pub unrouted-outcome : (n ≡ 0 → ⊥) → outcome n 0 (c .given) (c .out) ≡ stepOf c
+          unrouted-outcome z = quiet-outcome n (routed ∙ sym (routed-first (settingOf c) (c .frame) fitting formed (λ q. z (routed ∙ q)))) z
 
-            pub step-outcome : (o : Outcome) → o ≡ carriedOut p (c .own) h (c .given) (c .out) → o ≡ stepOf c
+          module _ (z : n ≡ 0) where
+            pub short-outcome : h .dlc ≡ 0 → (o : Outcome) → o ≡ switchedOut (c .table) (c .own) h (c .given) (c .out) → o ≡ stepOf c
             unfolding stepOf
-            step-outcome o f = f ∙ rw (asked, he)
+            short-outcome q o f =
+                let l = eq-eqb (headerOf (c .frame) .dlc) 0 (rw he at q) in
+                let judged = short-routed (settingOf c) (c .frame) fitting formed l (sym routed ∙ z) (pointFor (c .table) (headerOf (c .frame))) refl in
+                f ∙ rw (he, judged)
+
+            module _ (q : h .dlc ≡ 0 → ⊥) (p : Plan) (pe : p ≡ planByService (c .table) h (c .frame)) where
+              long : inShort (headerOf (c .frame)) ≡ false
+              long = ne-eqb (headerOf (c .frame) .dlc) 0 (λ e. q (ap (λ (k : Header). k .dlc) he ∙ e))
+
+              passes : firstOf (quietChecks (settingOf c) (c .frame)) ≡ 0
+              passes = long-routed (settingOf c) (c .frame) fitting formed long (sym routed ∙ z)
+
+              asked : judgedOf (settingOf c) (c .frame) ≡ asks p
+              asked = request-planned (settingOf c) (c .frame) long passes h he p pe
+
+              pub step-ready : Ready p (c .own) h (length (c .given .store)) (length (c .given .work)) (length (c .out))
+              step-ready = rw he (ready (settingOf c) (c .frame) long passes p asked)
+
+              pub step-outcome : (o : Outcome) → o ≡ carriedOut p (c .own) h (c .given) (c .out) → o ≡ stepOf c
+              unfolding stepOf
+              step-outcome o f = f ∙ rw (asked, he)

@@ -1,22 +1,21 @@
 -- Every plan that the checks let through can be carried out.
-use Prim.Native.Nat.{ℕ, _≤_}
+use Prim.Native.Nat.{ℕ}
 use mathlib.Core.Path.{_≡_, refl, sym, subst, _∙_}
 use mathlib.Core.Bool.{false}
 use mathlib.Mathlib.Data.Bool.Basic.{or-eq-false-eq-eq-false-and-eq-false as neither}
 use mathlib.Core.List.{List}
 use native.Mathlib.Omega.{arith}
-use lib.Dec.{ltb}
-use borrow.Author.Tests.{ltb-false}
+use borrow.Author.Tests.{eqb-false}
 use Rattle.laws.specs.Checks.{firstOf, holdsAt}
 use Rattle.laws.proofs.Checks.{none-holds}
 use Rattle.octets.proofs.Datas.{tidy-most, bytes-length}
 use Rattle.codec.specs.declared.Header.{Header}
-use Rattle.codec.specs.Names.{mostAddress}
 use Rattle.codec.specs.Fields.{headerOf}
-use Rattle.codec.proofs.Headers.{ranged}
+use Rattle.codec.specs.Reading.{unserved}
+use Rattle.codec.proofs.Headers.{ranged, long-served}
 use Rattle.guest.specs.declared.Plan.{Plan}
 use Rattle.guest.specs.declared.Plan.the-variants.{Error, Read, Write, Join}
-use Rattle.guest.specs.Checks.{Setting, misfit, noService}
+use Rattle.guest.specs.Checks.{Setting, misfit, inShort}
 use Rattle.guest.specs.Step.{asks, judgedOf}
 use Rattle.guest.proofs.Plans.{accepted, Sound, SoundJudged, sound}
 use Rattle.judge.specs.Code.{quietChecks}
@@ -24,13 +23,14 @@ use Rattle.answers.specs.Code.{Answerable}
 use Rattle.writes.specs.Code.{KeepReady}
 use Rattle.device.specs.Code.{Ready}
 
--- a frame that gets an answer frame has passed checks 1 and 5
-answerable : (s : Setting) (r : List ℕ) → misfit s r ≡ false → noService (headerOf r) ≡ false → Answerable (s .own) (headerOf r) (s .outLen)
-answerable s r m n =
+-- a frame in long form that gets an answer frame has passed checks 1 and 5
+answerable : (s : Setting) (r : List ℕ) → misfit s r ≡ false → inShort (headerOf r) ≡ false → unserved (headerOf r) ≡ false
+    → Answerable (s .own) (headerOf r) (s .outLen)
+answerable s r m l n =
     let f = accepted s r m in
     record {
       address = f .own;
-      named = ltb-false (headerOf r .service) 4 (neither (ltb (headerOf r .dlc) 2) (ltb (headerOf r .service) 4) .0 n .1);
+      named = long-served (headerOf r) (eqb-false (headerOf r .dlc) 0 l) n .1;
       service = ranged r .service;
       object = ranged r .object;
       room = f .out;
@@ -57,14 +57,10 @@ sound-ready s h (Join a number total b) w z =
     } in
     (w, (keep, z .its .place .inside))
 
--- checks 1 to 6 let a frame pass to its plan
-pub ready : (s : Setting) (r : List ℕ) → firstOf (quietChecks s r) ≡ 0 → (p : Plan) → judgedOf s r ≡ asks p
+-- checks 1 to 6 let a frame in long form pass to its plan
+pub ready : (s : Setting) (r : List ℕ) → inShort (headerOf r) ≡ false → firstOf (quietChecks s r) ≡ 0 → (p : Plan) → judgedOf s r ≡ asks p
     → Ready p (s .own) (headerOf r) (s .storeLen) (s .workLen) (s .outLen)
 unfolding holdsAt
-ready s r e p j =
+ready s r l e p j =
     let none = none-holds (quietChecks s r) refl .0 e in
-    sound-ready s (headerOf r) p (answerable s r (none 1) (none 5)) (subst (SoundJudged s (headerOf r)) j (sound s r))
-
-pub own-most : (s : Setting) (r : List ℕ) → firstOf (quietChecks s r) ≡ 0 → s .own ≤ mostAddress
-unfolding holdsAt
-own-most s r e = accepted s r (none-holds (quietChecks s r) refl .0 e 1) .own
+    sound-ready s (headerOf r) p (answerable s r (none 1) l (neither (unserved (headerOf r)) _ .0 (none 5) .0)) (subst (SoundJudged s (headerOf r)) j (sound s r))

@@ -1,6 +1,7 @@
 // The device: one frame, one reply (01, "One frame, one reply").
 mod applying;
 mod stepping;
+mod switching;
 
 pub use stepping::step;
 

@@ -1,10 +1,11 @@
-// One call: checks 1 to 6 put no frame and are answered at once; what else is asked for is a plan, which is carried out.
+// One call: checks 1 to 6 put no frame and are answered at once; a short Write gives its state; what else is asked for is a plan, which is carried out.
 ghost use mathlib.Core.Path.{_≡_};
 ghost use Rattle.guest.specs.Step.{areas, call, outcome, stepOf};
 use crate::Reply;
 use crate::applying::apply;
+use crate::switching::switch;
 
-// What 01 says of one frame, for every input of any length.
+// What 01 and 02 say of one frame, for every input of any length.
 pub fn step(
     frame: &[u8],
     own: u32,
@@ -33,6 +34,9 @@ pub fn step(
     let number = judge::route_number(own, h);
     if number != 0 {
         return Reply { number, count: 0 };
+    }
+    if h.dlc == 0 {
+        return switch(own as u8, table, h, store, out);
     }
     let plan = judge::request_plan(table, h, frame);
     apply(plan, own as u8, h, store, work, out)

@@ -21,8 +21,8 @@ use Rattle.table.specs.declared.Found.the-variants.{At, Nothing}
 use Rattle.join.specs.Work.{Piece, Joined, kept, done, lost, base, dropped}
 use Rattle.guest.specs.declared.Plan.{Plan}
 use Rattle.guest.specs.declared.Plan.the-variants.{Error, Read, Write, Join}
-use Rattle.guest.specs.Checks.{Setting, pieceOf, soughtIn, planChecks}
-use Rattle.guest.specs.Step.{served, servedWrite, Judged, quiet, asks, judgedOf, ignore, refuse, joinEffect, planEffect, effectOf, joinedIn, Areas, areas, perform, errorFrame, replyTo, effectIn, answer, sent, outcome, outcomeOf}
+use Rattle.guest.specs.Checks.{Setting, inShort, pieceOf, soughtIn, planChecks}
+use Rattle.guest.specs.Step.{served, servedWrite, Judged, quiet, switches, asks, switched, passing, judgedOf, ignore, refuse, joinEffect, planEffect, effectOf, joinedIn, Areas, areas, perform, errorFrame, replyTo, effectIn, answer, sent, outcome, outcomeOf}
 use Rattle.guest.proofs.Plans.{Sound, SoundJudged, sound}
 
 -- the number of what is refused is in its range
@@ -34,6 +34,7 @@ PlanInRange (Join a number total b) = Unit {0}
 
 abbrev InRange : Judged → Type 0
 InRange (quiet n) = (1 ≤ n) × (n ≤ 6)
+InRange (switches a state) = Unit {0}
 InRange (asks p) = PlanInRange p
 
 served-in-range : (h : Header) (m : Message) (f : Found) → PlanInRange (served h m f)
@@ -45,12 +46,19 @@ served-in-range h m (At a) = split (eqb (h .service) readService) (λ t. simp t 
     go (Plain u b) = tt
     go (Fragment u number total b) = tt
 
+passing-in-range : (h : Header) (m : Message) (f : Found) → InRange (passing h m f)
+passing-in-range h m f = split (inShort h) (λ l. simp l (go f)) (λ l. simp l (served-in-range h m f))
+  where
+    go : (f : Found) → InRange (switched h f)
+    go Nothing = omega arith
+    go (At a) = tt
+
 in-range : (s : Setting) (r : List ℕ) → InRange (judgedOf s r)
 unfolding judgedOf
 in-range s r =
     let n = firstOf (planChecks s r) in
     split (eqb n 0)
-    (λ t. simp t (served-in-range (headerOf r) (messageOf r) (soughtIn (s .table) (headerOf r))))
+    (λ t. simp t (passing-in-range (headerOf r) (messageOf r) (soughtIn (s .table) (headerOf r))))
     (λ t.
     let z = eqb-false n 0 t in
     let m : n ≤ 13 = first-most 13 (planChecks s r) refl in
@@ -85,6 +93,7 @@ kind s r x = go (judgedOf s r) refl (in-range s r) (sound s r)
     go : (p : Judged) → judgedOf s r ≡ p → InRange p → SoundJudged s (headerOf r) p
         → Kind s r x (replyTo (s .own) (headerOf r) (effectOf (joinedIn (x .work)) p) (x .store) .number)
     go (quiet n) e i z = mute (i .0) (i .1) (rw e)
+    go (switches a state) e i z = fine refl
     go (asks p) e i z = plan p e i z
 
 -- ---- what the refusing effects leave

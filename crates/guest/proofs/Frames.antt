@@ -7,7 +7,7 @@ use native.Mathlib.Nat.{mul-suc}
 use native.Mathlib.Omega.{arith}
 use lib.ListN.{length, getD, take, length-append, length-take, List·getD-append}
 use lib.Seq.{take-add, take-all, getD-at}
-use lib.Dec.{leb, ltb}
+use lib.Dec.{eqb, leb, ltb}
 use borrow.Author.Tests.{leb-true, le-leb, lt-leb, ltb-true, ltb-false}
 use Rattle.laws.proofs.Tests.{split}
 use Rattle.octets.specs.Data.{dataOf}
@@ -15,20 +15,20 @@ use Rattle.octets.proofs.Datas.{bytes-data}
 use Rattle.codec.specs.declared.Header.{Header}
 use Rattle.codec.specs.declared.Subject.{Subject}
 use Rattle.codec.specs.declared.Answer.the-variants.{Got}
-use Rattle.codec.specs.declared.Message.the-variants.{Plain, Fragment}
-use Rattle.codec.specs.Names.{mostAddress, lowestLong, successful, erroneous}
+use Rattle.codec.specs.declared.Message.the-variants.{Short, Plain, Fragment}
+use Rattle.codec.specs.Names.{mostAddress, writeOn, lowestLong, successful, erroneous}
 use Rattle.codec.specs.Fields.{headerOf}
 use Rattle.codec.specs.Reading.{readOf}
 use Rattle.codec.specs.Writing.{imageOf}
 use Rattle.codec.proofs.Fits.{SubjectFits}
-use Rattle.codec.proofs.Images.{plain-length, fragment-length}
-use Rattle.codec.proofs.Trips.{written-read, plain-carried, fragment-carried}
+use Rattle.codec.proofs.Images.{short-length, plain-length, fragment-length}
+use Rattle.codec.proofs.Trips.{written-read, short-carried, plain-carried, fragment-carried}
 use Rattle.table.specs.declared.Attribute.{Attribute}
 use Rattle.table.specs.Table.{endOf, partOf}
 use Rattle.join.specs.Work.{Piece, Joined, kept, done, lost}
 use Rattle.guest.specs.declared.Plan.the-variants.{Error, Read, Write, Join}
 use Rattle.guest.specs.Checks.{Setting, pieceOf}
-use Rattle.guest.specs.Step.{Judged, quiet, asks, judgedOf, Effect, ignore, refuse, show, write, keep, joinEffect, effectOf, joinedIn, Areas, answering, errorFrame, successFrame, fragmentPart, fragmentFrame, fragmentFrames, fragmentCount, readFrames, replyTo, effectIn, answer, flat}
+use Rattle.guest.specs.Step.{Judged, quiet, switches, asks, judgedOf, Form, plain, fragmented, short, Effect, ignore, refuse, show, write, keep, joinEffect, effectOf, joinedIn, Areas, answering, errorFrame, successFrame, acknowledgeOf, shortFrame, doneFrame, fragmentPart, fragmentFrame, fragmentFrames, fragmentCount, readFrames, replyTo, effectIn, answer, flat}
 use Rattle.guest.specs.Frames.{Tens, dataOfAnswer, dataOfFrames}
 use Rattle.guest.proofs.Plans.{SoundJudged, sound}
 
@@ -44,6 +44,15 @@ error-ten own h number = plain-length (answering own h erroneous) [] (omega arit
 pub success-ten : (own : ℕ) (h : Header) → length (successFrame own h) ≡ 10
 unfolding successFrame
 success-ten own h = plain-length (answering own h successful) [] (omega arith)
+
+pub short-ten : (own : ℕ) (h : Header) → length (shortFrame own h) ≡ 10
+unfolding shortFrame
+short-ten own h = short-length 1 own (acknowledgeOf h)
+
+done-ten : (own : ℕ) (h : Header) (form : Form) → length (doneFrame own h form) ≡ 10
+done-ten own h plain = success-ten own h
+done-ten own h fragmented = success-ten own h
+done-ten own h short = short-ten own h
 
 pub fragment-ten : (u : Subject) (bs : List ℕ) (n : ℕ) → length (fragmentFrame u bs n) ≡ 10
 unfolding fragmentFrame
@@ -69,7 +78,7 @@ unfolding replyTo
 effect-tens own h (ignore n) l = tt
 effect-tens own h (refuse n drops) l = (error-ten own h n, tt)
 effect-tens own h (show a) l = read-tens own h (partOf a l)
-effect-tens own h (write a bs ends) l = (success-ten own h, tt)
+effect-tens own h (write a bs form) l = (done-ten own h form, tt)
 effect-tens own h (keep a p) l = tt
 
 pub reply-tens : (s : Setting) (r : List ℕ) (x : Areas) → Tens (answer s r x .frames)
@@ -97,33 +106,34 @@ unfolding partOf
 part-most a store = split (leb (endOf a) (length store)) (λ t. simp t (rw length-take (omega arith))) (λ t. simp t (omega arith))
 
 -- what is shown is at most 255 bytes
-abbrev Short : Effect → Type 0
-Short (ignore n) = Unit {0}
-Short (refuse n drops) = Unit {0}
-Short (show a) = a .len ≤ 255
-Short (write a bs ends) = Unit {0}
-Short (keep a p) = Unit {0}
+abbrev Bounded : Effect → Type 0
+Bounded (ignore n) = Unit {0}
+Bounded (refuse n drops) = Unit {0}
+Bounded (show a) = a .len ≤ 255
+Bounded (write a bs form) = Unit {0}
+Bounded (keep a p) = Unit {0}
 
-effect-count : (own : ℕ) (h : Header) (e : Effect) (l : List ℕ) → Short e → length (replyTo own h e l .frames) ≤ 64
+effect-count : (own : ℕ) (h : Header) (e : Effect) (l : List ℕ) → Bounded e → length (replyTo own h e l .frames) ≤ 64
 unfolding replyTo
 effect-count own h (ignore n) l z = omega arith
 effect-count own h (refuse n drops) l z = omega arith
 effect-count own h (show a) l z =
     let most : length (partOf a l) ≤ 255 = omega (arith, part-most a l) in
     rw (read-count own h (partOf a l)) (split (leb (length (partOf a l)) 6) (λ t. simp t (omega arith)) (λ t. simp t (omega arith)))
-effect-count own h (write a bs ends) l z = omega arith
+effect-count own h (write a bs form) l z = omega arith
 effect-count own h (keep a p) l z = omega arith
 
 pub reply-count : (s : Setting) (r : List ℕ) (x : Areas) → length (answer s r x .frames) ≤ 64
 reply-count s r x = effect-count (s .own) (headerOf r) (effectIn s r x) (x .store) (go (judgedOf s r) (sound s r))
   where
-    join : (a : Attribute) (p : Piece) (j : Joined) → Short (joinEffect a p j)
+    join : (a : Attribute) (p : Piece) (j : Joined) → Bounded (joinEffect a p j)
     join a p kept = tt
     join a p (done bs) = tt
     join a p lost = tt
 
-    go : (p : Judged) → SoundJudged s (headerOf r) p → Short (effectOf (joinedIn (x .work)) p)
+    go : (p : Judged) → SoundJudged s (headerOf r) p → Bounded (effectOf (joinedIn (x .work)) p)
     go (quiet n) z = tt
+    go (switches a state) z = tt
     go (asks (Error n o)) z = tt
     go (asks (Read a)) z = z .place .fits .short
     go (asks (Write a b)) z = tt
@@ -135,6 +145,16 @@ reply-count s r x = effect-count (s .own) (headerOf r) (effectIn s r x) (x .stor
 pub answering-fits : (own : ℕ) (h : Header) (response : ℕ) → own ≤ mostAddress → lowestLong ≤ h .service → h .service ≤ 7 → response ≤ 3 → h .object ≤ 31
     → SubjectFits (answering own h response)
 answering-fits own h response o l m p b = record { dir = omega arith; address = o; named = l; service = m; response = p; object = b }
+
+pub acknowledge-most : (h : Header) → acknowledgeOf h ≤ 7
+acknowledge-most h = split (eqb (h .service) writeOn) (λ t. simp t (omega arith)) (λ t. simp t (omega arith))
+
+-- the acknowledge of a short Write says so
+pub short-reads : (own : ℕ) (h : Header) → own ≤ mostAddress → readOf (shortFrame own h) ≡ Got (Short 1 own (acknowledgeOf h))
+unfolding shortFrame
+short-reads own h o =
+    written-read (Short 1 own (acknowledgeOf h))
+    (short-carried 1 own (acknowledgeOf h) (record { dir = omega arith; address = o; service = acknowledge-most h }))
 
 module _ (own : ℕ) (h : Header) (o : own ≤ mostAddress) (l : lowestLong ≤ h .service) (m : h .service ≤ 7) (b : h .object ≤ 31) where
   pub error-reads : (number : ℕ) → readOf (errorFrame own h number) ≡ Got (Plain (answering own h erroneous) (dataOf []))

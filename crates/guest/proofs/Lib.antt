@@ -1,5 +1,6 @@
 pub mod Facts
 pub mod Plans
+pub mod Short
 pub mod Numbers
 pub mod Effects
 pub mod Frames

@@ -2,9 +2,8 @@
 use Prim.Native.Nat.{ℕ, _+_, _≤_, _<_}
 use mathlib.Core.Path.{_≡_, refl, sym, ap, subst, _∙_}
 use mathlib.Core.Logic.{_≢_}
-use mathlib.Core.Bool.{true, false}
 use mathlib.Core.Option.{Option, none, some}
-use mathlib.Core.List.{List}
+use mathlib.Core.List.{List, [], _∷_}
 use native.Mathlib.Omega.{arith}
 use lib.ListN.{length}
 use lib.Seq.{ext-getD}
@@ -23,9 +22,9 @@ use Rattle.join.proofs.Records.{area-length, area-outside, area-both, dropped-l
 use Rattle.guest.specs.declared.Plan.{Plan}
 use Rattle.guest.specs.declared.Plan.the-variants.{Error, Read, Write, Join}
 use Rattle.guest.specs.Checks.{Setting, joiner, pieceOf}
-use Rattle.guest.specs.Step.{Judged, quiet, asks, judgedOf, planOwner, owner, Effect, ignore, refuse, show, write, keep, joinEffect, planEffect, effectOf, joinedIn, Areas, storeAfter, workAfter, perform, readFrames, Reply, reply, replyTo, next, answer, ownerOf}
+use Rattle.guest.specs.Step.{Judged, quiet, switches, asks, judgedOf, planOwner, owner, plain, fragmented, short, Effect, ignore, refuse, show, write, keep, joinEffect, planEffect, effectOf, joinedIn, Areas, storeAfter, workAfter, perform, readFrames, Reply, reply, replyTo, next, answer, ownerOf}
 use Rattle.guest.specs.Belongs.{inPart, inRecord, Same, Good}
-use Rattle.guest.proofs.Plans.{Its, Sound, SoundJudged, sound}
+use Rattle.guest.proofs.Plans.{Its, ForSwitch, Sound, SoundJudged, sound}
 
 same-refl : (t : List ℕ) (o : ℕ) (x : Areas) → Same t o x x
 same-refl t o x = record { store = λ i p. refl; work = λ i p. refl }
@@ -55,7 +54,7 @@ module _ (s : Setting) (o : ℕ) where
   Within (refuse n none) = Unit {0}
   Within (refuse n (some q)) = Half q
   Within (show a) = Owned a
-  Within (write a bs ends) = Owned a × (length bs ≡ a .len)
+  Within (write a bs form) = Owned a × (length bs ≡ a .len)
   Within (keep a p) = Owned a × Fit joiner p
 
   half : (a : Attribute) → Owned a → Half (a .object)
@@ -72,7 +71,7 @@ module _ (s : Setting) (o : ℕ) where
   store-length (ignore n) z x g = refl
   store-length (refuse n d) z x g = refl
   store-length (show a) z x g = refl
-  store-length (write a bs ends) z x g = length-put (x .store) (a .offset) bs (inside a bs (z .0) (z .1) x g)
+  store-length (write a bs form) z x g = length-put (x .store) (a .offset) bs (inside a bs (z .0) (z .1) x g)
   store-length (keep a p) z x g = refl
 
   work-length : (e : Effect) → Within e → (x : Areas) → Good s x → length (workAfter e (x .work)) ≡ length (x .work)
@@ -80,8 +79,9 @@ module _ (s : Setting) (o : ℕ) where
   work-length (refuse n none) z x g = refl
   work-length (refuse n (some q)) z x g = dropped-length (base q) (x .work) (record-room q z x g)
   work-length (show a) z x g = refl
-  work-length (write a bs false) z x g = refl
-  work-length (write a bs true) z x g = dropped-length (base (a .object)) (x .work) (record-room (a .object) (half a (z .0)) x g)
+  work-length (write a bs plain) z x g = refl
+  work-length (write a bs short) z x g = refl
+  work-length (write a bs fragmented) z x g = dropped-length (base (a .object)) (x .work) (record-room (a .object) (half a (z .0)) x g)
   work-length (keep a p) z x g =
       area-length joiner (base (a .object)) p (z .1) kept (x .work) (record-room (a .object) (half a (z .0)) x g)
 
@@ -101,7 +101,7 @@ module _ (s : Setting) (o : ℕ) where
     store-other (ignore n) z x g = λ i p. refl
     store-other (refuse n d) z x g = λ i p. refl
     store-other (show a) z x g = λ i p. refl
-    store-other (write a bs ends) z x g =
+    store-other (write a bs form) z x g =
         untouched (inPart (s .table) k) (x .store) (a .offset) bs (inside a bs (z .0) (z .1) x g) (λ i l h. no-part a (z .0) i l (omega (arith, z .1)))
     store-other (keep a p) z x g = λ i p. refl
 
@@ -110,8 +110,9 @@ module _ (s : Setting) (o : ℕ) where
     work-other (refuse n none) z x g = λ i p. refl
     work-other (refuse n (some q)) z x g = dropped-outside (base q) (x .work) (record-room q z x g) (inRecord k) (no-record q z)
     work-other (show a) z x g = λ i p. refl
-    work-other (write a bs false) z x g = λ i p. refl
-    work-other (write a bs true) z x g =
+    work-other (write a bs plain) z x g = λ i p. refl
+    work-other (write a bs short) z x g = λ i p. refl
+    work-other (write a bs fragmented) z x g =
         dropped-outside (base (a .object)) (x .work) (record-room (a .object) (half a (z .0)) x g) (inRecord k) (no-record (a .object) (half a (z .0)))
     work-other (keep a p) z x g =
         area-outside joiner (base (a .object)) p (z .1) (inRecord k) kept (x .work) (record-room (a .object) (half a (z .0)) x g)
@@ -127,7 +128,7 @@ module _ (s : Setting) (o : ℕ) where
     store-own (ignore n) z = same .store
     store-own (refuse n d) z = same .store
     store-own (show a) z = same .store
-    store-own (write a bs ends) z =
+    store-own (write a bs form) z =
         put-both (inPart (s .table) o) (x .store) (y .store) (a .offset) bs (inside a bs (z .0) (z .1) x gx) (inside a bs (z .0) (z .1) y gy) (same .store)
     store-own (keep a p) z = same .store
 
@@ -139,8 +140,9 @@ module _ (s : Setting) (o : ℕ) where
     work-own (refuse n none) z = same .work
     work-own (refuse n (some q)) z = dropped-own q z
     work-own (show a) z = same .work
-    work-own (write a bs false) z = same .work
-    work-own (write a bs true) z = dropped-own (a .object) (half a (z .0))
+    work-own (write a bs plain) z = same .work
+    work-own (write a bs short) z = same .work
+    work-own (write a bs fragmented) z = dropped-own (a .object) (half a (z .0))
     work-own (keep a p) z =
         area-both joiner (base (a .object)) p (z .1) (inRecord o) kept (x .work) (y .work)
         (record-room (a .object) (half a (z .0)) x gx) (record-room (a .object) (half a (z .0)) y gy) (same .work)
@@ -163,7 +165,7 @@ module _ (s : Setting) (o : ℕ) where
     told h (ignore n) z = refl
     told h (refuse n d) z = refl
     told h (show a) z = ap (λ (bs : List ℕ). reply 0 (readFrames (s .own) h bs)) (part-same a z)
-    told h (write a bs ends) z = refl
+    told h (write a bs form) z = refl
     told h (keep a p) z = refl
 
 -- ---- plans: their effect keeps to their owner
@@ -171,6 +173,9 @@ module _ (s : Setting) (o : ℕ) where
 module _ (s : Setting) where
   owned : (h : Header) (a : Attribute) → Its s h a → Owned s (a .object) a
   owned h a z = record { object = refl; place = z .place; area = z .area }
+
+  switch-within : (h : Header) (a : Attribute) (state : ℕ) → ForSwitch s h a → Within s (a .object) (write a (state ∷ []) short)
+  switch-within h a state z = (record { object = refl; place = z .place; area = z .area }, sym (z .one))
 
   pub record-of : (h : Header) (a : Attribute) → Its s h a → (x : Areas) → Good s x → base (a .object) + recordSize ≤ length (x .work)
   record-of h a z x g = room (a .object) (x .work) (z .place .fits .object) (g .work ∙ z .area)
@@ -222,17 +227,27 @@ module _ (s : Setting) where
     good-after : (j : Judged) → SoundJudged s h j → (x : Areas) → Good s x → Good s (after j x)
     unfolding perform
     good-after (quiet n) z x g = g
+    good-after (switches a state) z x g = good s (a .object) (write a (state ∷ []) short) (switch-within h a state z) x g
     good-after (asks p) z x g = good s (planOwner p) (planEffect (joinedIn (x .work)) p) (within h p z x g) x g
 
     others-after : (j : Judged) → SoundJudged s h j → (o : ℕ) → owner j ≢ some o → (x : Areas) → Good s x → Same (s .table) o (after j x) x
     unfolding perform
     others-after (quiet n) z o ne x g = same-refl (s .table) o x
+    others-after (switches a state) z o ne x g =
+        other s (a .object) o (λ e. ne (ap {B = Option ℕ} some (sym e))) (write a (state ∷ []) short) (switch-within h a state z) x g
     others-after (asks p) z o ne x g =
         other s (planOwner p) o (λ e. ne (ap {B = Option ℕ} some (sym e))) (planEffect (joinedIn (x .work)) p) (within h p z x g) x g
 
     own-after : (j : Judged) → SoundJudged s h j → (o : ℕ) → owner j ≡ some o → (x y : Areas) → Good s x → Good s y → Same (s .table) o x y
         → Same (s .table) o (after j x) (after j y) × (said h j x ≡ said h j y)
     own-after (quiet n) z o m x y gx gy e = let q : _≡_ {A = ℕ} 0 1 = cc in absurd (omega arith)
+    own-after (switches a state) z o m x y gx gy e =
+        let q : a .object ≡ o = cc in
+        let same : Same (s .table) (a .object) x y = subst (λ (k : ℕ). Same (s .table) k x y) (sym q) e in
+        let w = switch-within h a state z in (
+          subst (λ (k : ℕ). Same (s .table) k (after (switches a state) x) (after (switches a state) y)) q (next-alike s (a .object) x y gx gy same _ w),
+          told s (a .object) x y gx gy same h _ w,
+        )
     own-after (asks p) z o m x y gx gy e =
         let q : planOwner p ≡ o = cc in
         let same : Same (s .table) (planOwner p) x y = subst (λ (k : ℕ). Same (s .table) k x y) (sym q) e in
@@ -246,10 +261,12 @@ module _ (s : Setting) where
     free-said : (j : Judged) → owner j ≡ none → (x y : Areas) → said h j x ≡ said h j y
     unfolding replyTo
     free-said (quiet n) m x y = refl
+    free-said (switches a state) m x y = let q : _≡_ {A = ℕ} 0 1 = cc in absurd (omega arith)
     free-said (asks p) m x y = let q : _≡_ {A = ℕ} 0 1 = cc in absurd (omega arith)
 
     below : (j : Judged) → SoundJudged s h j → (o : ℕ) → owner j ≡ some o → o < recordCount
     below (quiet n) z o e = let q : _≡_ {A = ℕ} 0 1 = cc in absurd (omega arith)
+    below (switches a state) z o e = let q : a .object ≡ o = cc in omega (arith, z .place .fits .object)
     below (asks p) z o e = let q : planOwner p ≡ o = cc in omega (arith, plan-below h p z)
 
   pub next-good : (r : List ℕ) (x : Areas) → Good s x → Good s (next s r x)

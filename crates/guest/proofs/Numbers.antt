@@ -1,7 +1,7 @@
 -- The number of a reply is that of the first of the fourteen checks that holds.
 use Prim.Native.Nat.{ℕ, _≤_}
 use mathlib.Core.Path.{_≡_, refl, sym, ap, subst, _∙_}
-use mathlib.Core.Bool.{false, cond, not}
+use mathlib.Core.Bool.{true, false, cond, not}
 use mathlib.Core.List.{List, [], _∷_}
 use native.Mathlib.Omega.{arith}
 use lib.Dec.{eqb, leb}
@@ -16,17 +16,16 @@ use Rattle.codec.specs.declared.Message.the-variants.{Short, Plain, Fragment}
 use Rattle.codec.specs.Names.{writeService, readService}
 use Rattle.codec.specs.Fields.{headerOf}
 use Rattle.codec.specs.Reading.{messageOf}
-use Rattle.codec.proofs.Long.{message-plain, message-fragment}
+use Rattle.codec.proofs.Long.{message-short, message-plain, message-fragment}
 use Rattle.table.specs.declared.Attribute.{Attribute}
 use Rattle.table.specs.declared.Found.{Found}
 use Rattle.table.specs.declared.Found.the-variants.{At, Nothing}
-use Rattle.table.proofs.Tables.{found-placed, found-named}
 use Rattle.join.proofs.Joins.{number-most}
 use Rattle.join.specs.Work.{Piece, last, base, load, astray, joined}
 use Rattle.guest.specs.declared.Plan.the-variants.{Join}
-use Rattle.guest.specs.Checks.{Setting, unknown, wrongLength, wrongPiece, highNumber, fragmentBytes, joiner, pieceOf, outOfOrder, soughtIn, planChecks, checks}
-use Rattle.guest.specs.Step.{served, judgedOf, planEffect, joinedIn, Areas, replyTo, answer}
-use Rattle.guest.proofs.Plans.{Unrefused, unrefused}
+use Rattle.guest.specs.Checks.{Setting, inShort, unknown, wrongLength, wrongPiece, highNumber, fragmentBytes, joiner, pieceOf, outOfOrder, soughtIn, planChecks, checks}
+use Rattle.guest.specs.Step.{served, switched, passing, judgedOf, planEffect, effectOf, joinedIn, Areas, replyTo, answer}
+use Rattle.guest.proofs.Plans.{Unrefused, unrefused, its-of, short-found}
 
 -- a fragment is answered 14 exactly where it is out of order in the record of its attribute's object
 join-number : (own : ℕ) (h : Header) (a : Attribute) (number total : ℕ) (b : Data) (l work : List ℕ) (object id : ℕ) → a .object ≡ object → a .id ≡ id
@@ -49,10 +48,27 @@ served-number s r x u (At a) e =
     (λ t. rw (message-plain r z (u .frame .plain-read (eqb-true (h .service) readService t))) (simp t))
     (λ t. split (eqb (h .flag) 1)
     (λ f.
-    let name = found-named (s .table) (h .object) (h .id) a e in
+    let its = its-of s r u a e in
     rw (message-fragment r z (eqb-true (h .flag) 1 f))
-    (simp t (join-number (s .own) h a _ _ _ (x .store) (x .work) (h .object) (h .id) (name .0) (name .1))))
+    (simp t (join-number (s .own) h a _ _ _ (x .store) (x .work) (h .object) (h .id) (its .object) (its .id))))
     (λ f. rw (message-plain r z (eqb-false (h .flag) 1 f)) (simp t)))
+
+-- a short Write that passes checks 1 to 5 is served
+switched-number : (s : Setting) (r : List ℕ) (x : Areas) → inShort (headerOf r) ≡ true → firstOf (planChecks s r) ≡ 0
+    → (f : Found) → soughtIn (s .table) (headerOf r) ≡ f
+    → replyTo (s .own) (headerOf r) (effectOf (joinedIn (x .work)) (switched (headerOf r) f)) (x .store) .number
+    ≡ cond (outOfOrder (messageOf r) (x .work)) 14 0
+unfolding replyTo
+switched-number s r x l e Nothing q = absurd (short-found s r l e q)
+switched-number s r x l e (At a) q = rw (message-short r (eqb-true (headerOf r .dlc) 0 l))
+
+passing-number : (s : Setting) (r : List ℕ) (x : Areas) → firstOf (planChecks s r) ≡ 0 → (f : Found) → soughtIn (s .table) (headerOf r) ≡ f
+    → replyTo (s .own) (headerOf r) (effectOf (joinedIn (x .work)) (passing (headerOf r) (messageOf r) f)) (x .store) .number
+    ≡ cond (outOfOrder (messageOf r) (x .work)) 14 0
+passing-number s r x e f q =
+    split (inShort (headerOf r))
+    (λ l. simp l (switched-number s r x l e f q))
+    (λ l. simp l (served-number s r x (unrefused s r l e) f q))
 
 -- refused with the number of a check of the plan, or answered by check 14
 plan-number : (s : Setting) (r : List ℕ) (x : Areas)
@@ -60,7 +76,7 @@ plan-number : (s : Setting) (r : List ℕ) (x : Areas)
 unfolding judgedOf replyTo
 plan-number s r x =
     split (eqb (firstOf (planChecks s r)) 0)
-    (λ t. simp t (served-number s r x (unrefused s r (eqb-true (firstOf (planChecks s r)) 0 t)) (soughtIn (s .table) (headerOf r)) refl))
+    (λ t. simp t (passing-number s r x (eqb-true (firstOf (planChecks s r)) 0 t) (soughtIn (s .table) (headerOf r)) refl))
     (λ t. split (leb (firstOf (planChecks s r)) 6) (λ q. simp (t, q)) (λ q. simp (t, q)))
 
 pub number-is : (s : Setting) (r : List ℕ) (x : Areas) → answer s r x .number ≡ firstOf (checks s r (x .work))
@@ -78,7 +94,7 @@ high-fits h a w l (Fragment u number total b) e p =
     let n : not (eqb total (a .len)) ≡ false = simp (eq-eqb (h .service) writeService w) at e in
     le-ltb 63 number (number-most fragmentBytes 63 total number (b .len) (omega arith) (omega (arith, eqb-true total (a .len) (not-false _ n))) (not-false _ p))
 
--- a record that passes checks 1 to 12 passes 13
+-- a record in long form that passes checks 1 to 12 passes 13
 pub no-thirteen : (s : Setting) (r : List ℕ) → Unrefused s r → (f : Found) → soughtIn (s .table) (headerOf r) ≡ f → highNumber (messageOf r) ≡ false
 no-thirteen s r u Nothing e = clash (ap unknown e) (u .known)
 no-thirteen s r u (At a) e =
@@ -86,6 +102,5 @@ no-thirteen s r u (At a) e =
     split (eqb (h .service) readService)
     (λ t. rw (message-plain r (λ q. omega (arith, u .frame .long)) (u .frame .plain-read (eqb-true (h .service) readService t))))
     (λ t.
-    let pl = found-placed (s .table) (s .storeLen) (h .object) (h .id) a (u .well) e in
-    high-fits h a (u .frame .services (eqb-false (h .service) readService t)) (pl .fits .short) (messageOf r)
+    high-fits h a (u .frame .services (eqb-false (h .service) readService t)) (its-of s r u a e .place .fits .short) (messageOf r)
     (subst (λ (f : Found). wrongLength h (messageOf r) f ≡ false) e (u .length-fits)) (u .piece-fits))

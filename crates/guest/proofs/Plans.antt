@@ -1,7 +1,7 @@
 -- What a plan promises: the facts that checks 1 to 13 leave.
 use Prim.Native.Nat.{ℕ, _≤_, _<_}
-use mathlib.Core.Path.{_≡_, refl, ap, subst, _∙_}
-use mathlib.Core.Bool.{true, false, not, _&&_, _||_, and-eq-true-iff}
+use mathlib.Core.Path.{_≡_, refl, sym, ap, subst, _∙_}
+use mathlib.Core.Bool.{Bool, true, false, not, _&&_, _||_, and-eq-true-iff}
 use mathlib.Mathlib.Data.Bool.Basic.{or-eq-false-eq-eq-false-and-eq-false as neither}
 use mathlib.Core.List.{List}
 use native.Mathlib.Omega.{arith}
@@ -9,7 +9,7 @@ use lib.ListN.{length}
 use lib.Dec.{eqb, leb, ltb}
 use borrow.Author.Tests.{ltb-false, eqb-true, eqb-false, eq-eqb, not-false}
 use Rattle.laws.specs.Checks.{firstOf, holdsAt}
-use Rattle.laws.proofs.Tests.{split, clash}
+use Rattle.laws.proofs.Tests.{split, clash, not-both, halves}
 use Rattle.laws.proofs.Checks.{none-holds}
 use Rattle.octets.specs.declared.Data.{Data}
 use Rattle.octets.specs.Data.{bytesOf, tidy}
@@ -22,23 +22,23 @@ use Rattle.codec.specs.declared.Message.{Message}
 use Rattle.codec.specs.declared.Message.the-variants.{Short, Plain, Fragment}
 use Rattle.codec.specs.Names.{frameSize, mostAddress, writeService, readService}
 use Rattle.codec.specs.Fields.{headerOf}
-use Rattle.codec.specs.Reading.{headerChecks, barred, messageOf, readOf}
+use Rattle.codec.specs.Reading.{headerChecks, barred, unserved, shortOf, messageOf, readOf}
 use Rattle.codec.specs.Writing.{subjectFits, carried}
-use Rattle.codec.proofs.Headers.{long-passes, ranged}
-use Rattle.codec.proofs.Long.{got, message-plain, message-fragment}
+use Rattle.codec.proofs.Headers.{long-served, long-passes, short-passes, ranged}
+use Rattle.codec.proofs.Long.{got, message-short, message-plain, message-fragment}
 use Rattle.codec.proofs.Trips.{read-is-carried}
 use Rattle.table.specs.declared.Attribute.{Attribute}
 use Rattle.table.specs.declared.Found.{Found}
 use Rattle.table.specs.declared.Found.the-variants.{At, Nothing}
-use Rattle.table.specs.Table.{lengthsFit, LengthsFit, attributes, wellFormed}
-use Rattle.table.proofs.Tables.{lengths-fit-in-words, Placed, found-placed, found-named}
+use Rattle.table.specs.Table.{lengthsFit, LengthsFit, attributes, writable, wellFormed, find, firstNetwork, singleBoolean}
+use Rattle.table.proofs.Tables.{lengths-fit-in-words, Placed, found-placed, found-named, network-placed, network-its, single-byte}
 use Rattle.join.specs.Work.{areaSize}
 use Rattle.join.specs.History as Join
 use Rattle.join.proofs.Joins.{simple-fit}
 use Rattle.guest.specs.declared.Plan.{Plan}
 use Rattle.guest.specs.declared.Plan.the-variants.{Error, Read, Write, Join}
-use Rattle.guest.specs.Checks.{Setting, leastOut, misfit, noService, actionOrEvent, badShape, unknown, wrongLength, wrongPiece, fragmentBytes, joiner, pieceOf, soughtIn, planChecks}
-use Rattle.guest.specs.Step.{served, servedWrite, Judged, quiet, asks, judgedOf}
+use Rattle.guest.specs.Checks.{Setting, leastOut, misfit, inShort, shortWrite, takesState, noService, actionOrEvent, badShape, unknown, wrongLength, wrongPiece, fragmentBytes, joiner, pieceOf, soughtIn, planChecks}
+use Rattle.guest.specs.Step.{served, servedWrite, Judged, quiet, switches, asks, stateOf, switched, passing, judgedOf}
 
 -- what check 1 leaves
 pub record Accepted (s : Setting) (r : List ℕ) : Type 0 where
@@ -80,7 +80,7 @@ flagged h b which f =
     let w = eq-eqb (h .service) writeService (which (eqb-false (h .service) readService t)) in
     ltb-false (h .dlc) 4 (simp (w, set) at (parts .1)))
 
--- what checks 3 to 8 leave of a header: the codec reads its record
+-- what checks 3 to 8 leave of a header in long form: the codec reads its record
 pub record Passed (h : Header) : Type 0 where
   pub long : 2 ≤ h .dlc
   pub named : 4 ≤ h .service
@@ -88,11 +88,11 @@ pub record Passed (h : Header) : Type 0 where
   pub plain-read : h .service ≡ readService → h .flag ≡ 1 → ⊥
   pub unrefused : firstOf (headerChecks h) ≡ 0
 
-pub passed : (h : Header) → barred h ≡ false → noService h ≡ false → actionOrEvent h ≡ false → badShape h ≡ false → Passed h
-passed h b n a p =
-    let five = neither (ltb (h .dlc) 2) (ltb (h .service) 4) .0 n in
-    let dlc = ltb-false (h .dlc) 2 (five .0) in
-    let service = ltb-false (h .service) 4 (five .1) in
+pub passed : (h : Header) → (h .dlc ≡ 0 → ⊥) → barred h ≡ false → unserved h ≡ false → actionOrEvent h ≡ false → badShape h ≡ false → Passed h
+passed h z b n a p =
+    let five = long-served h z n in
+    let dlc = five .0 in
+    let service = five .1 in
     let most = ltb-false 5 (h .service) a in
     let which : (h .service ≡ readService → ⊥) → h .service ≡ writeService = λ n. omega arith in
     record {
@@ -103,8 +103,11 @@ passed h b n a p =
       unrefused = long-passes h b dlc service (flagged h p which);
     }
 
--- what is known of a setting and a record that pass checks 1 to 12
+-- ---- a record in long form
+
+-- what is known of a setting and a record in long form that pass checks 1 to 12
 pub record Unrefused (s : Setting) (r : List ℕ) : Type 0 where
+  pub long : inShort (headerOf r) ≡ false
   pub sizes : Accepted s r
   pub well : wellFormed (s .table) (s .storeLen) ≡ true
   pub read : readOf r ≡ Got (messageOf r)
@@ -113,29 +116,37 @@ pub record Unrefused (s : Setting) (r : List ℕ) : Type 0 where
   pub length-fits : wrongLength (headerOf r) (messageOf r) (soughtIn (s .table) (headerOf r)) ≡ false
   pub piece-fits : wrongPiece (messageOf r) ≡ false
 
-pub unrefused-by : (s : Setting) (r : List ℕ) → ((n : ℕ) → n < 13 → holdsAt (planChecks s r) n ≡ false) → Unrefused s r
+pub unrefused-by : (s : Setting) (r : List ℕ) → inShort (headerOf r) ≡ false → ((n : ℕ) → n < 13 → holdsAt (planChecks s r) n ≡ false) → Unrefused s r
 unfolding holdsAt
-unrefused-by s r free =
+unrefused-by s r long free =
     let sizes = accepted s r (free 1 (omega arith)) in
-    let frame = passed (headerOf r) (free 3 (omega arith)) (free 5 (omega arith)) (free 7 (omega arith)) (free 8 (omega arith)) in
+    let served = neither (unserved (headerOf r)) _ .0 (free 5 (omega arith)) .0 in
+    let action = applies _ (free 7 (omega arith)) in
+    let shape = applies _ (free 8 (omega arith)) in
+    let frame = passed (headerOf r) (eqb-false (headerOf r .dlc) 0 long) (free 3 (omega arith)) served action shape in
     record {
+      long = long;
       sizes = sizes;
       frame = frame;
       well = not-false _ (free 2 (omega arith));
       read = got r (sizes .ten) (frame .unrefused);
-      known = free 9 (omega arith);
-      length-fits = free 11 (omega arith);
-      piece-fits = free 12 (omega arith);
+      known = applies _ (free 9 (omega arith));
+      length-fits = applies _ (free 11 (omega arith));
+      piece-fits = applies _ (free 12 (omega arith));
     }
+  where
+    -- of a long form, each of checks 6 to 13 is asked
+    applies : (b : Bool) → not (inShort (headerOf r)) && b ≡ false → b ≡ false
+    applies b e = not-both (not (inShort (headerOf r))) b e (rw long)
 
-pub unrefused : (s : Setting) (r : List ℕ) → firstOf (planChecks s r) ≡ 0 → Unrefused s r
-unrefused s r e = unrefused-by s r (λ n h. none-holds (planChecks s r) refl .0 e n)
+pub unrefused : (s : Setting) (r : List ℕ) → inShort (headerOf r) ≡ false → firstOf (planChecks s r) ≡ 0 → Unrefused s r
+unrefused s r long e = unrefused-by s r long (λ n h. none-holds (planChecks s r) refl .0 e n)
 
 -- ---- sound plans
 
--- what is known of the attribute that a frame is served with
+-- what is known of the attribute that a frame in long form is served with
 pub record Its (s : Setting) (h : Header) (a : Attribute) : Type 0 where
-  pub found : soughtIn (s .table) h ≡ At a
+  pub found : find (s .table) (h .object) (h .id) ≡ At a
   pub place : Placed (attributes (s .table)) (s .storeLen) a
   pub object : a .object ≡ h .object
   pub id : a .id ≡ h .id
@@ -180,12 +191,22 @@ sound-write s r a its w (Fragment u number total b) c l p =
       fits = simple-fit fragmentBytes (a .id) total number (bytesOf b) (omega (arith, its .place .fits .short)) (rw (bytes-length b t) (not-false _ p));
     }
 
-its-of : (s : Setting) (r : List ℕ) → Unrefused s r → (a : Attribute) → soughtIn (s .table) (headerOf r) ≡ At a → Its s (headerOf r) a
+-- what a frame is about
+pub sought-long : (t : List ℕ) (h : Header) → inShort h ≡ false → soughtIn t h ≡ find t (h .object) (h .id)
+unfolding soughtIn
+sought-long t h l = simp l
+
+pub sought-short : (t : List ℕ) (h : Header) → inShort h ≡ true → soughtIn t h ≡ firstNetwork t 0
+unfolding soughtIn
+sought-short t h l = simp l
+
+pub its-of : (s : Setting) (r : List ℕ) → Unrefused s r → (a : Attribute) → soughtIn (s .table) (headerOf r) ≡ At a → Its s (headerOf r) a
 its-of s r u a e =
-    let name = found-named (s .table) (headerOf r .object) (headerOf r .id) a e in
+    let found = sym (sought-long (s .table) (headerOf r) (u .long)) ∙ e in
+    let name = found-named (s .table) (headerOf r .object) (headerOf r .id) a found in
     record {
-      found = e;
-      place = found-placed (s .table) (s .storeLen) (headerOf r .object) (headerOf r .id) a (u .well) e;
+      found = found;
+      place = found-placed (s .table) (s .storeLen) (headerOf r .object) (headerOf r .id) a (u .well) found;
       object = name .0;
       id = name .1;
       area = u .sizes .work;
@@ -202,42 +223,127 @@ sound-served s r u (At a) e =
     (read-is-carried r (messageOf r) (u .read))
     (subst (λ (f : Found). wrongLength (headerOf r) (messageOf r) f ≡ false) e (u .length-fits)) (u .piece-fits)))
 
+-- ---- a record in short form
+
+-- what is known of the attribute that a short Write gives its state to
+pub record ForSwitch (s : Setting) (h : Header) (a : Attribute) : Type 0 where
+  pub found : firstNetwork (s .table) 0 ≡ At a
+  pub asked : shortWrite h ≡ true
+  pub single : singleBoolean a ≡ true
+  pub may : writable a ≡ true
+  pub place : Placed (attributes (s .table)) (s .storeLen) a
+  pub object : a .object ≡ 0
+  pub one : a .len ≡ 1
+  pub area : s .workLen ≡ areaSize
+
+-- what check 5 leaves of a short form
+pub taken-by : (h : Header) (f : Found) → inShort h ≡ true → noService h f ≡ false → shortWrite h && takesState f ≡ true
+taken-by h f q e =
+    let refused = neither (unserved h) _ .0 e .1 in
+    not-false _ (not-both (inShort h) (not (shortWrite h && takesState f)) refused q)
+
+for-switch : (s : Setting) (r : List ℕ) → inShort (headerOf r) ≡ true → firstOf (planChecks s r) ≡ 0
+    → (a : Attribute) → soughtIn (s .table) (headerOf r) ≡ At a → ForSwitch s (headerOf r) a
+unfolding holdsAt
+for-switch s r q e a f =
+    let none = none-holds (planChecks s r) refl .0 e in
+    let well = not-false _ (none 2) in
+    let found = sym (sought-short (s .table) (headerOf r) q) ∙ f in
+    let taken = halves (shortWrite (headerOf r)) (taken-by (headerOf r) (At a) q (subst (λ (g : Found). noService (headerOf r) g ≡ false) f (none 5))) in
+    let takes = halves (singleBoolean a) (taken .1) in
+    record {
+      found = found;
+      asked = taken .0;
+      single = takes .0;
+      may = takes .1;
+      place = network-placed (s .table) (s .storeLen) 0 a well found;
+      object = network-its (s .table) 0 a found .0;
+      one = single-byte a (takes .0);
+      area = accepted s r (none 1) .work;
+    }
+
+-- ---- any record
+
 -- what is owed to what is judged of a frame
 abbrev pub SoundJudged : Setting → Header → Judged → Type 0
 SoundJudged s h (quiet n) = Unit {0}
+SoundJudged s h (switches a state) = ForSwitch s h a
 SoundJudged s h (asks p) = Sound s h p
+
+sound-switched : (s : Setting) (r : List ℕ) → inShort (headerOf r) ≡ true → firstOf (planChecks s r) ≡ 0
+    → (f : Found) → soughtIn (s .table) (headerOf r) ≡ f → SoundJudged s (headerOf r) (switched (headerOf r) f)
+sound-switched s r q e Nothing g = tt
+sound-switched s r q e (At a) g = for-switch s r q e a g
+
+sound-passing : (s : Setting) (r : List ℕ) → firstOf (planChecks s r) ≡ 0 → (f : Found) → soughtIn (s .table) (headerOf r) ≡ f
+    → SoundJudged s (headerOf r) (passing (headerOf r) (messageOf r) f)
+sound-passing s r e f g =
+    split (inShort (headerOf r))
+    (λ q. simp q (sound-switched s r q e f g))
+    (λ q. simp q (sound-served s r (unrefused s r q e) f g))
 
 pub sound : (s : Setting) (r : List ℕ) → SoundJudged s (headerOf r) (judgedOf s r)
 unfolding judgedOf
 sound s r =
     split (eqb (firstOf (planChecks s r)) 0)
-    (λ t. simp t (sound-served s r (unrefused s r (eqb-true _ 0 t)) (soughtIn (s .table) (headerOf r)) refl))
+    (λ t. simp t (sound-passing s r (eqb-true _ 0 t) (soughtIn (s .table) (headerOf r)) refl))
     (λ t. split (leb (firstOf (planChecks s r)) 6) (λ q. simp (t, q) tt) (λ q. simp (t, q) (ranged r .object)))
 
 -- ---- what a frame that passes checks 1 to 13 is served as
 
 pub data ServedBy (s : Setting) (r : List ℕ) : Type 0 where
+  by-switch : (a : Attribute) → readOf r ≡ Got (shortOf (headerOf r)) → ForSwitch s (headerOf r) a
+      → judgedOf s r ≡ switches a (stateOf (headerOf r)) → ServedBy s r
   by-read : (a : Attribute) → headerOf r .service ≡ readService → Its s (headerOf r) a → judgedOf s r ≡ asks (Read a) → ServedBy s r
   by-write : (a : Attribute) (u : Subject) (b : Data) → headerOf r .service ≡ writeService → readOf r ≡ Got (Plain u b)
       → ForWrite s (headerOf r) a b → judgedOf s r ≡ asks (Write a b) → ServedBy s r
   by-join : (a : Attribute) (u : Subject) (number total : ℕ) (b : Data) → headerOf r .service ≡ writeService → readOf r ≡ Got (Fragment u number total b)
       → ForJoin s (headerOf r) a number total b → judgedOf s r ≡ asks (Join a number total b) → ServedBy s r
 
-pub served-by : (s : Setting) (r : List ℕ) → firstOf (planChecks s r) ≡ 0 → ServedBy s r
+judged-passing : (s : Setting) (r : List ℕ) → firstOf (planChecks s r) ≡ 0 → (f : Found) → soughtIn (s .table) (headerOf r) ≡ f
+    → judgedOf s r ≡ passing (headerOf r) (messageOf r) f
 unfolding judgedOf
-served-by s r e = found (soughtIn (s .table) (headerOf r)) refl
+judged-passing s r e f q = simp (eq-eqb (firstOf (planChecks s r)) 0 e) (ap (λ (f : Found). passing (headerOf r) (messageOf r) f) q)
+
+-- in short form it finds a record that takes its state
+pub short-found : (s : Setting) (r : List ℕ) → inShort (headerOf r) ≡ true → firstOf (planChecks s r) ≡ 0 → soughtIn (s .table) (headerOf r) ≡ Nothing → ⊥
+unfolding holdsAt
+short-found s r l e q =
+    let five = none-holds (planChecks s r) refl .0 e 5 in
+    let taken = halves (shortWrite (headerOf r)) (taken-by (headerOf r) Nothing l (subst (λ (f : Found). noService (headerOf r) f ≡ false) q five)) in
+    clash {P = ⊥} (taken .1) refl
+
+served-short : (s : Setting) (r : List ℕ) → inShort (headerOf r) ≡ true → firstOf (planChecks s r) ≡ 0 → ServedBy s r
+unfolding holdsAt
+served-short s r l e = found (soughtIn (s .table) (headerOf r)) refl
+  where
+    none : (n : ℕ) → holdsAt (planChecks s r) n ≡ false
+    none = none-holds (planChecks s r) refl .0 e
+
+    zero : headerOf r .dlc ≡ 0
+    zero = eqb-true (headerOf r .dlc) 0 l
+
+    says : readOf r ≡ Got (shortOf (headerOf r))
+    says = got r (accepted s r (none 1) .ten) (short-passes (headerOf r) (none 3) zero) ∙ ap {B = Answer} Got (message-short r zero)
+
+    found : (f : Found) → soughtIn (s .table) (headerOf r) ≡ f → ServedBy s r
+    found Nothing q = absurd (short-found s r l e q)
+    found (At a) q = by-switch a says (for-switch s r l e a q) (judged-passing s r e (At a) q ∙ simp l)
+
+served-long : (s : Setting) (r : List ℕ) → inShort (headerOf r) ≡ false → firstOf (planChecks s r) ≡ 0 → ServedBy s r
+served-long s r l e = found (soughtIn (s .table) (headerOf r)) refl
   where
     h : Header
     h = headerOf r
 
     u : Unrefused s r
-    u = unrefused s r e
+    u = unrefused s r l e
 
     long : h .dlc ≡ 0 → ⊥
     long q = omega (arith, u .frame .long)
 
     plan : (f : Found) → soughtIn (s .table) h ≡ f → judgedOf s r ≡ asks (served h (messageOf r) f)
-    plan f q = simp (eq-eqb (firstOf (planChecks s r)) 0 e) (ap (λ (f : Found). asks (served h (messageOf r) f)) q)
+    plan f q = judged-passing s r e f q ∙ simp l
 
     is-sound : (p : Plan) → judgedOf s r ≡ asks p → Sound s h p
     is-sound p q = subst (SoundJudged s h) q (sound s r)
@@ -258,3 +364,6 @@ served-by s r e = found (soughtIn (s .table) (headerOf r)) refl
         let m = message-plain r long (eqb-false (h .flag) 1 f) in
         let p = plan (At a) q ∙ simp (t, m) in
         by-write a _ _ w (u .read ∙ ap {B = Answer} Got m) (is-sound _ p) p))
+
+pub served-by : (s : Setting) (r : List ℕ) → firstOf (planChecks s r) ≡ 0 → ServedBy s r
+served-by s r e = split (inShort (headerOf r)) (λ l. served-short s r l e) (λ l. served-long s r l e)

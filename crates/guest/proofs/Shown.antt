@@ -19,7 +19,7 @@ use Rattle.join.proofs.Records.{load-same, load-after, held-size, stepped}
 use Rattle.join.proofs.Joins.{after, history}
 use Rattle.guest.specs.declared.Plan.the-variants.{Error, Read, Write, Join}
 use Rattle.guest.specs.Checks.{Setting, joiner, pieceOf}
-use Rattle.guest.specs.Step.{Judged, quiet, asks, judgedOf, Effect, joinEffect, planEffect, effectOf, joinedIn, Areas, storeAfter, workAfter, perform, replyTo, effectIn, next, answer, ownerOf, owner}
+use Rattle.guest.specs.Step.{Judged, quiet, switches, asks, judgedOf, Effect, joinEffect, planEffect, effectOf, joinedIn, Areas, storeAfter, workAfter, perform, replyTo, effectIn, next, answer, ownerOf, owner}
 use Rattle.guest.specs.Belongs.{inRecord, Good}
 use Rattle.guest.specs.History.{withPiece, piecesOf, joinedBy, effectBy, shown, said}
 use Rattle.guest.proofs.Plans.{SoundJudged, sound, ForJoin}
@@ -50,6 +50,7 @@ module _ (s : Setting) where
     where
       go : (p : Judged) → SoundJudged s (headerOf r) p → All (Fit joiner) (piecesOf s o h) → All (Fit joiner) (withPiece o p (piecesOf s o h))
       go (quiet n) z ih = ih
+      go (switches a state) z ih = ih
       go (asks (Error n q)) z ih = ih
       go (asks (Read a)) z ih = ih
       go (asks (Write a b)) z ih = ih
@@ -97,6 +98,7 @@ module _ (s : Setting) where
         go : (p : Judged) → judgedOf s r ≡ p → SoundJudged s (headerOf r) p → load joiner (base o) (y .work) ≡ after joiner (load joiner (base o) (x .work)) (piecesOf s o h)
             → load joiner (base o) (perform (effectOf (joinedIn (y .work)) p) y .work) ≡ after joiner (load joiner (base o) (x .work)) (withPiece o p (piecesOf s o h))
         go (quiet n) e z ih = ih
+        go (switches a state) e z ih = ih
         go (asks (Error n q)) e z ih = ih
         go (asks (Read a)) e z ih = ih
         go (asks (Write a b)) e z ih = ih
@@ -131,6 +133,7 @@ module _ (s : Setting) where
         where
           go : (p : Judged) → SoundJudged s (headerOf r) p → effectOf (joinedIn (since x h .work)) p ≡ effectOf (joinedBy s h) p
           go (quiet n) z = refl
+          go (switches a state) z = refl
           go (asks (Error n q)) z = refl
           go (asks (Read a)) z = refl
           go (asks (Write a b)) z = refl

@@ -4,18 +4,18 @@ use mathlib.Core.Bool.{Bool, true, false, cond, not, _&&_, _||_}
 use mathlib.Core.List.{List, [], _∷_, _++_}
 use lib.ListN.{length}
 use lib.Dec.{eqb, ltb}
-use Rattle.laws.specs.Checks.{Check}
+use Rattle.laws.specs.Checks.{Check, onlyWhere}
 use Rattle.octets.specs.declared.Data.{Data}
 use Rattle.octets.specs.Data.{bytesOf}
 use Rattle.codec.specs.declared.Header.{Header}
 use Rattle.codec.specs.declared.Message.{Message}
 use Rattle.codec.specs.declared.Message.the-variants.{Short, Plain, Fragment}
-use Rattle.codec.specs.Names.{frameSize, mostAddress, lowestLong, writeService, readService, request}
+use Rattle.codec.specs.Names.{frameSize, mostAddress, writeOff, writeOn, writeService, readService, request}
 use Rattle.codec.specs.Fields.{headerOf}
-use Rattle.codec.specs.Reading.{barred, messageOf}
+use Rattle.codec.specs.Reading.{barred, unserved, messageOf}
 use Rattle.table.specs.declared.Found.{Found}
 use Rattle.table.specs.declared.Found.the-variants.{At, Nothing}
-use Rattle.table.specs.Table.{lengthsFit, readable, writable, wellFormed, find}
+use Rattle.table.specs.Table.{lengthsFit, readable, writable, wellFormed, find, firstNetwork, singleBoolean}
 use Rattle.join.specs.Work.{areaSize, base, Joiner, simple, Piece, load, shapedBy, astray}
 
 -- what decides a call besides the frame and what the lent areas hold: own address, table, and the lengths of store, work area and output
@@ -52,9 +52,23 @@ illFormed s = not (wellFormed (s .table) (s .storeLen))
 abbrev pub notForUs : ℕ → Header → Bool
 notForUs own h = eqb (h .dir) 1 || not (eqb (h .address) own)
 
--- 5  "DLC 0 or 1, or service 0 to 3"
-abbrev pub noService : Header → Bool
-noService h = ltb (h .dlc) 2 || ltb (h .service) lowestLong
+-- DLC 0 is the short form
+abbrev pub inShort : Header → Bool
+inShort h = eqb (h .dlc) 0
+
+-- "A short Write ON or OFF" (02, 2026-01)
+abbrev pub shortWrite : Header → Bool
+shortWrite h = eqb (h .service) writeOff || eqb (h .service) writeOn
+
+-- whether the record that it is about takes it: "if that record is a single Boolean (N = 1, one byte) and may be written"
+abbrev pub takesState : Found → Bool
+takesState Nothing = false
+takesState (At a) = singleBoolean a && writable a
+
+-- 5  "DLC 0 or 1, or service 0 to 3", of which 02, 2026-01, leaves: DLC 1, or DLC 2 up with service 0 to 3 (the codec's `unserved`); of DLC 0 "the other
+-- six codes and where object 0 has no such record"
+abbrev pub noService : Header → Found → Bool
+noService h found = unserved h || (inShort h && not (shortWrite h && takesState found))
 
 -- 6  "not a Request"
 abbrev pub notRequest : Header → Bool
@@ -120,15 +134,10 @@ outOfOrder (Short dir address service) work = false
 outOfOrder (Plain u b) work = false
 outOfOrder (Fragment u number total b) work = astray joiner (load joiner (base (u .object)) work) (pieceOf (u .id) number total b)
 
--- checks 1 to 13: no state decides them
-abbrev pub stateless : Setting → List ℕ → Header → Message → Found → List Check
-stateless s r h m found =
-    (misfit s r, 1)
-    ∷ (illFormed s, 2)
-    ∷ (barred h, 3)
-    ∷ (notForUs (s .own) h, 4)
-    ∷ (noService h, 5)
-    ∷ (notRequest h, 6)
+-- checks 6 to 13, which look at a long form
+abbrev pub longChecks : Header → Message → Found → List Check
+longChecks h m found =
+    (notRequest h, 6)
     ∷ (actionOrEvent h, 7)
     ∷ (badShape h, 8)
     ∷ (unknown found, 9)
@@ -138,13 +147,23 @@ stateless s r h m found =
     ∷ (highNumber m, 13)
     ∷ []
 
--- what a lookup finds for a record
-abbrev pub soughtIn : List ℕ → Header → Found
-soughtIn t h = find t (h .object) (h .id)
+-- checks 1 to 13: no state decides them. "Checks 6 to 14 don't apply to" a short Write (02, 2026-01)
+abbrev pub stateless : Setting → List ℕ → Header → Message → Found → List Check
+stateless s r h m found =
+    (misfit s r, 1)
+    ∷ (illFormed s, 2)
+    ∷ (barred h, 3)
+    ∷ (notForUs (s .own) h, 4)
+    ∷ (noService h found, 5)
+    ∷ onlyWhere (not (inShort h)) (longChecks h m found)
+
+-- the record that a frame is about: in short form "the first network record of object 0" (02, 2026-01), else that of its object and ID
+unfoldable pub soughtIn : List ℕ → Header → Found
+soughtIn t h = cond (inShort h) (firstNetwork t 0) (find t (h .object) (h .id))
 
 abbrev pub planChecks : Setting → List ℕ → List Check
 planChecks s r = stateless s r (headerOf r) (messageOf r) (soughtIn (s .table) (headerOf r))
 
--- all fourteen
+-- all fourteen (a message in short form is never out of order)
 abbrev pub checks : Setting → List ℕ → List ℕ → List Check
 checks s r work = planChecks s r ++ (outOfOrder (messageOf r) work, 14) ∷ []

@@ -9,11 +9,12 @@ use Rattle.join.specs.Work.{Piece, Joined, kept, done, lost, last}
 use Rattle.join.specs.History.{chain, message}
 use Rattle.guest.specs.declared.Plan.the-variants.{Error, Read, Write, Join}
 use Rattle.guest.specs.Checks.{Setting, joiner, pieceOf}
-use Rattle.guest.specs.Step.{Judged, quiet, asks, judgedOf, Effect, effectOf, storeAfter, Reply, replyTo}
+use Rattle.guest.specs.Step.{Judged, quiet, switches, asks, judgedOf, Effect, effectOf, storeAfter, Reply, replyTo}
 
 -- "Take all fragmented Writes to one object that pass checks 1 to 13, in order": one frame's, in front of the earlier ones
 abbrev pub withPiece : ℕ → Judged → List Piece → List Piece
 withPiece o (quiet n) h = h
+withPiece o (switches a state) h = h
 withPiece o (asks (Error n q)) h = h
 withPiece o (asks (Read a)) h = h
 withPiece o (asks (Write a b)) h = h

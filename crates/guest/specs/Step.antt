@@ -1,6 +1,6 @@
 -- One frame: what it asks for, what it does, what is answered (01, from "One frame, one reply" on).
 use Prim.Native.Nat.{ℕ, zero, suc, _+_, _*_, _/_}
-use mathlib.Core.Bool.{Bool, true, false, cond}
+use mathlib.Core.Bool.{cond}
 use mathlib.Core.List.{List, [], _∷_, _++_}
 use mathlib.Core.Option.{Option, none, some}
 use lib.ListN.{length, take, drop}
@@ -12,7 +12,7 @@ use Rattle.codec.specs.declared.Header.{Header}
 use Rattle.codec.specs.declared.Subject.{Subject}
 use Rattle.codec.specs.declared.Message.{Message}
 use Rattle.codec.specs.declared.Message.the-variants.{Short, Plain, Fragment}
-use Rattle.codec.specs.Names.{readService, successful, erroneous}
+use Rattle.codec.specs.Names.{writeOn, writeOffAck, writeOnAck, readService, successful, erroneous}
 use Rattle.codec.specs.Fields.{headerOf}
 use Rattle.codec.specs.Reading.{messageOf}
 use Rattle.codec.specs.Writing.{imageOf}
@@ -23,11 +23,11 @@ use Rattle.table.specs.Table.{partOf}
 use Rattle.join.specs.Work.{Piece, Joined, kept, done, lost, base, load, joined, dropped, areaAfter}
 use Rattle.guest.specs.declared.Plan.{Plan}
 use Rattle.guest.specs.declared.Plan.the-variants.{Error, Read, Write, Join}
-use Rattle.guest.specs.Checks.{Setting, settingBy, fragmentBytes, joiner, pieceOf, soughtIn, planChecks}
+use Rattle.guest.specs.Checks.{Setting, settingBy, inShort, fragmentBytes, joiner, pieceOf, soughtIn, planChecks}
 
 -- ---- the plan: what a frame asks for, decided without state
 
--- a frame that passes checks 1 to 13 (a short message, and no record found, cannot be: checks 5 and 9)
+-- a long form that passes checks 1 to 13 (a short message, and no record found, cannot be: check 9)
 abbrev pub servedWrite : Attribute → Message → Plan
 servedWrite a (Short dir address service) = Error 8 (a .object)
 servedWrite a (Plain u b) = Write a b
@@ -37,10 +37,27 @@ abbrev pub served : Header → Message → Found → Plan
 served h m Nothing = Error 9 (h .object)
 served h m (At a) = cond (eqb (h .service) readService) (Read a) (servedWrite a m)
 
--- what is judged of a frame: it is refused with this number and no frame, or it asks for something
+-- what is judged of a frame
 pub data Judged : Type 0 where
+  -- it is refused with this number and no frame
   quiet : ℕ → Judged
+  -- it is a short Write, which gives the attribute this state
+  switches : Attribute → ℕ → Judged
+  -- it is in long form and asks for something
   asks : Plan → Judged
+
+-- "sets the first network record of object 0 to 1 or 0" (02, 2026-01)
+abbrev pub stateOf : Header → ℕ
+stateOf h = cond (eqb (h .service) writeOn) 1 0
+
+-- a short Write that passes checks 1 to 5 (no record found cannot be: check 5)
+abbrev pub switched : Header → Found → Judged
+switched h Nothing = quiet 5
+switched h (At a) = switches a (stateOf h)
+
+-- a frame that passes checks 1 to 13
+abbrev pub passing : Header → Message → Found → Judged
+passing h m found = cond (inShort h) (switched h found) (asks (served h m found))
 
 -- refusals 1 to 6 put no frame, 7 to 13 one
 abbrev pub refused : ℕ → ℕ → Judged
@@ -49,10 +66,11 @@ refused n object = cond (leb n 6) (quiet n) (asks (Error n object))
 unfoldable pub judgedOf : Setting → List ℕ → Judged
 judgedOf s r =
     cond (eqb (firstOf (planChecks s r)) 0)
-    (asks (served (headerOf r) (messageOf r) (soughtIn (s .table) (headerOf r))))
+    (passing (headerOf r) (messageOf r) (soughtIn (s .table) (headerOf r)))
     (refused (firstOf (planChecks s r)) (headerOf r .object))
 
--- whose a frame is: "Frames answered 1 to 6 belong to no object"; the others are their plan's
+-- whose a frame is: "Frames answered 1 to 6 belong to no object"; a short Write is its attribute's object's, which is object 0; the others are their
+-- plan's
 abbrev pub planOwner : Plan → ℕ
 planOwner (Error n object) = object
 planOwner (Read a) = a .object
@@ -61,9 +79,16 @@ planOwner (Join a number total b) = a .object
 
 abbrev pub owner : Judged → Option ℕ
 owner (quiet n) = none
+owner (switches a state) = some (a .object)
 owner (asks p) = some (planOwner p)
 
 -- ---- the effect: what a frame does
+
+-- how a write came: in one frame, in fragments, or in short form
+pub data Form : Type 0 where
+  plain : Form
+  fragmented : Form
+  short : Form
 
 pub data Effect : Type 0 where
   -- it is refused with this number, and no frame is put
@@ -72,26 +97,27 @@ pub data Effect : Type 0 where
   refuse : ℕ → Option ℕ → Effect
   -- the attribute's bytes are answered
   show : Attribute → Effect
-  -- the attribute takes these bytes; the Bool says whether they end the half-built message of its object
-  write : Attribute → List ℕ → Bool → Effect
+  -- the attribute takes these bytes; a fragmented write ends the half-built message of its object
+  write : Attribute → List ℕ → Form → Effect
   -- the fragment is kept in the work record of the attribute's object
   keep : Attribute → Piece → Effect
 
 -- what a fragment of a Write does, by what the joiner says to it: 14 "also sets status byte of that object's work record to 0"
 abbrev pub joinEffect : Attribute → Piece → Joined → Effect
 joinEffect a p kept = keep a p
-joinEffect a p (done bs) = write a bs true
+joinEffect a p (done bs) = write a bs fragmented
 joinEffect a p lost = refuse 14 (some (a .object))
 
 -- what a plan does, where `joins` is what the joiner says to a fragment for an attribute
 abbrev pub planEffect : (Attribute → Piece → Joined) → Plan → Effect
 planEffect joins (Error n object) = refuse n none
 planEffect joins (Read a) = show a
-planEffect joins (Write a b) = write a (bytesOf b) false
+planEffect joins (Write a b) = write a (bytesOf b) plain
 planEffect joins (Join a number total b) = joinEffect a (pieceOf (a .id) number total b) (joins a (pieceOf (a .id) number total b))
 
 abbrev pub effectOf : (Attribute → Piece → Joined) → Judged → Effect
 effectOf joins (quiet n) = ignore n
+effectOf joins (switches a state) = write a (state ∷ []) short
 effectOf joins (asks p) = planEffect joins p
 
 -- the joiner looks at the record of the attribute's object
@@ -113,7 +139,7 @@ abbrev pub storeAfter : Effect → List ℕ → List ℕ
 storeAfter (ignore n) l = l
 storeAfter (refuse n drops) l = l
 storeAfter (show a) l = l
-storeAfter (write a bs ends) l = put l (a .offset) bs
+storeAfter (write a bs form) l = put l (a .offset) bs
 storeAfter (keep a p) l = l
 
 -- "sets status to 0"; "Other bytes of the work area stay"
@@ -122,8 +148,9 @@ workAfter (ignore n) l = l
 workAfter (refuse n none) l = l
 workAfter (refuse n (some object)) l = dropped (base object) l
 workAfter (show a) l = l
-workAfter (write a bs false) l = l
-workAfter (write a bs true) l = dropped (base (a .object)) l
+workAfter (write a bs plain) l = l
+workAfter (write a bs fragmented) l = dropped (base (a .object)) l
+workAfter (write a bs short) l = l
 workAfter (keep a p) l = areaAfter joiner (base (a .object)) p kept l
 
 unfoldable pub perform : Effect → Areas → Areas
@@ -149,6 +176,20 @@ errorFrame own h number = imageOf (Plain (answering own h erroneous) (dataOf [])
 -- "one Successful frame, flag clear, DLC 2"
 unfoldable pub successFrame : ℕ → Header → List ℕ
 successFrame own h = imageOf (Plain (answering own h successful) (dataOf []))
+
+-- the acknowledge of a short Write (000, figure 3.4)
+abbrev pub acknowledgeOf : Header → ℕ
+acknowledgeOf h = cond (eqb (h .service) writeOn) writeOnAck writeOffAck
+
+-- "gets 000's short acknowledge of that Write, with Dir/Pri 1" (02, 2026-01), and its own address (000, 5.1.4)
+unfoldable pub shortFrame : ℕ → Header → List ℕ
+shortFrame own h = imageOf (Short 1 own (acknowledgeOf h))
+
+-- a write that is done is acknowledged in the form in which it came
+abbrev pub doneFrame : ℕ → Header → Form → List ℕ
+doneFrame own h plain = successFrame own h
+doneFrame own h fragmented = successFrame own h
+doneFrame own h short = shortFrame own h
 
 -- fragment n of an answer: "four data bytes each and the rest in the last"
 abbrev pub fragmentPart : List ℕ → ℕ → List ℕ
@@ -186,7 +227,7 @@ unfoldable pub replyTo : ℕ → Header → Effect → List ℕ → Reply
 replyTo own h (ignore n) l = reply n []
 replyTo own h (refuse n drops) l = reply n (errorFrame own h n ∷ [])
 replyTo own h (show a) l = reply 0 (readFrames own h (partOf a l))
-replyTo own h (write a bs ends) l = reply 0 (successFrame own h ∷ [])
+replyTo own h (write a bs form) l = reply 0 (doneFrame own h form ∷ [])
 replyTo own h (keep a p) l = reply 0 []
 
 -- ---- a device of one setting, frame by frame

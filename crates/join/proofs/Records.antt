@@ -10,7 +10,7 @@ use lib.Seq.{getD-drop}
 use borrow.Author.Tests.{leb-true}
 use Rattle.laws.specs.Bytes.{byteAt}
 use Rattle.laws.specs.Put.{put, Agree}
-use Rattle.laws.proofs.Put.{length-put, put-within, put-before, put-behind, untouched, put-both, same-part, part-put}
+use Rattle.laws.proofs.Put.{length-put, put-within, put-before, put-behind, untouched, put-both, same-part, part-put, one-put, one-beside}
 use Rattle.laws.proofs.Tests.{split}
 use Rattle.join.specs.Work.{recordSize, headSize, dataSize, secondKey, Joiner, Piece, Work, Joined, kept, done, lost, load, astray, last, joined, withData, headOf, dropped, areaAfter}
 use Rattle.join.specs.History.{Fit}
@@ -243,12 +243,10 @@ module _ (base : ℕ) (l : List ℕ) (h : base + recordSize ≤ length l) where
 
   -- its status byte is 0, and every other byte stays
   pub dropped-status : byteAt (dropped base l) base ≡ 0
-  dropped-status =
-      let z : base - base ≡ 0 = omega arith in
-      put-within l base (0 ∷ []) (omega arith) base (omega arith) (omega arith) ∙ rw z
+  dropped-status = one-put l base 0 (omega arith)
 
   pub dropped-others : (i : ℕ) → i ≢ base → byteAt (dropped base l) i ≡ byteAt l i
-  dropped-others i ne = untouched (λ k. k ≢ base) l base (0 ∷ []) (omega arith) (λ k a b q. q (omega arith)) i ne
+  dropped-others = one-beside l base 0 (omega arith)
 
   pub dropped-outside : (P : ℕ → Type 0) → ((i : ℕ) → base ≤ i → i < base + recordSize → P i → ⊥) → Agree P (dropped base l) l
   dropped-outside P out = untouched P l base (0 ∷ []) (omega arith) (λ k a b. out k a (omega arith))

@@ -1,9 +1,9 @@
 -- The checks in the groups in which the code decides them, and what it makes of a Request.
 use Prim.Native.Nat.{ℕ}
-use mathlib.Core.Bool.{cond, not, _||_}
+use mathlib.Core.Bool.{cond, not, _&&_, _||_}
 use mathlib.Core.List.{List, [], _∷_}
 use lib.Dec.{eqb}
-use Rattle.laws.specs.Checks.{Check, firstOf}
+use Rattle.laws.specs.Checks.{Check, firstOf, onlyWhere}
 use Rattle.codec.specs.declared.Header.{Header}
 use Rattle.codec.specs.declared.Message.{Message}
 use Rattle.codec.specs.declared.Message.the-variants.{Short, Plain, Fragment}
@@ -11,23 +11,37 @@ use Rattle.codec.specs.declared.Answer.{Answer}
 use Rattle.codec.specs.declared.Answer.the-variants.{Got, Refused}
 use Rattle.codec.specs.Names.{readService}
 use Rattle.codec.specs.Fields.{headerOf}
-use Rattle.codec.specs.Reading.{barred, messageOf, readOf}
+use Rattle.codec.specs.Reading.{barred, unserved, messageOf, readOf}
 use Rattle.table.specs.declared.Attribute.{Attribute}
 use Rattle.table.specs.declared.Found.{Found}
 use Rattle.table.specs.declared.Found.the-variants.{At, Nothing}
-use Rattle.table.specs.Table.{readable, writable, searched}
+use Rattle.table.specs.Table.{readable, writable, searched, firstNetwork}
 use Rattle.guest.specs.declared.Plan.{Plan}
 use Rattle.guest.specs.declared.Plan.the-variants.{Error, Read, Write, Join}
-use Rattle.guest.specs.Checks.{Setting, misfit, illFormed, notForUs, noService, notRequest, actionOrEvent, badShape, unknown, noAccess, wrongLength, wrongPiece, highNumber, soughtIn}
+use Rattle.guest.specs.Checks.{Setting, misfit, illFormed, notForUs, inShort, shortWrite, takesState, noService, notRequest, actionOrEvent, badShape, unknown, noAccess, wrongLength, wrongPiece, highNumber, soughtIn}
 use Rattle.guest.specs.Step.{served}
-
--- checks 3 to 6, of the header
-abbrev pub routeChecks : ℕ → Header → List Check
-routeChecks own h = (barred h, 3) ∷ (notForUs own h, 4) ∷ (noService h, 5) ∷ (notRequest h, 6) ∷ []
 
 -- 1 to 6: those that put no frame
 abbrev pub quietChecks : Setting → List ℕ → List Check
-quietChecks s r = (misfit s r, 1) ∷ (illFormed s, 2) ∷ routeChecks (s .own) (headerOf r)
+quietChecks s r =
+    (misfit s r, 1)
+    ∷ (illFormed s, 2)
+    ∷ (barred (headerOf r), 3)
+    ∷ (notForUs (s .own) (headerOf r), 4)
+    ∷ (noService (headerOf r) (soughtIn (s .table) (headerOf r)), 5)
+    ∷ onlyWhere (not (inShort (headerOf r))) ((notRequest (headerOf r), 6) ∷ [])
+
+-- 3 to 6, as far as the header decides them: of a short form the table decides check 5
+abbrev pub routeChecks : ℕ → Header → List Check
+routeChecks own h = (barred h, 3) ∷ (notForUs own h, 4) ∷ (unserved h, 5) ∷ (not (inShort h) && notRequest h, 6) ∷ []
+
+-- the record that a frame in short form gives its state to, if it is a short Write and there is such a record
+abbrev pub taking : Found → Found
+taking Nothing = Nothing
+taking (At a) = cond (takesState (At a)) (At a) Nothing
+
+unfoldable pub pointFor : List ℕ → Header → Found
+pointFor table h = cond (shortWrite h) (taking (firstNetwork table 0)) Nothing
 
 -- 7 and 8, of the header
 abbrev pub shapeChecks : Header → List Check
@@ -45,7 +59,7 @@ attributeChecks h m found = (unknown found, 9) ∷ (noAccess h found, 10) ∷ (w
 abbrev pub planBy : ℕ → ℕ → Plan → Plan
 planBy n object p = cond (eqb n 0) p (Error n object)
 
--- the plan of a frame that passes checks 1 to 6
+-- the plan of a frame in long form that passes checks 1 to 6
 abbrev pub requestPlan : List ℕ → List ℕ → Plan
 requestPlan table r =
     planBy (firstOf (shapeChecks (headerOf r))) (headerOf r .object)

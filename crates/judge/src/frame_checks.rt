@@ -33,7 +33,7 @@ pub fn misfit(
     false
 }
 
-// The first of checks 3 to 6 that holds; 0 where none does.
+// The first of checks 3 to 6 that holds, as far as the header decides them; 0 where none does. A short form is let through to `point_for`.
 pub fn route_number(own: u32, h: codec::Header) -> u8
     ensures { λ r. ⌜ r ≡ firstOf (routeChecks own h) ⌝ }
 {
@@ -53,7 +53,10 @@ pub fn route_number(own: u32, h: codec::Header) -> u8
         return 4;
     }
     if h.dlc < 2 {
-        return 5;
+        if h.dlc == 1 {
+            return 5;
+        }
+        return 0;
     }
     if h.service < codec::LOWEST_LONG {
         return 5;

@@ -1,13 +1,13 @@
 -- Each number of a table of checks is given exactly when its check holds and no earlier one does.
 use Prim.Native.Nat.{ℕ, _<_, _≤_}
 use mathlib.Core.Path.{_≡_, refl, sym, _∙_}
-use mathlib.Core.Bool.{true, false, cond, and-eq-true-iff}
+use mathlib.Core.Bool.{Bool, true, false, cond, and-eq-true-iff}
 use mathlib.Core.List.{List, [], _∷_, _++_}
 use mathlib.Core.Logic.{_↔_}
 use native.Mathlib.Omega.{arith}
 use lib.Dec.{ltb, leb, eqb}
 use borrow.Author.Tests.{ltb-true, ltb-false, leb-true, eqb-true, eqb-false, eq-eqb, ne-eqb}
-use Rattle.laws.specs.Checks.{Check, firstOf, holdsAt, FirstAt, risesFrom, mostIs}
+use Rattle.laws.specs.Checks.{Check, firstOf, holdsAt, onlyWhere, FirstAt, risesFrom, mostIs}
 use Rattle.laws.proofs.Tests.{split, clash}
 
 -- what a table that rises says of its first row and of the rest
@@ -128,3 +128,18 @@ unfolding holdsAt
 holds-append [] ds n e = refl
 holds-append (c ∷ cs) ds n e =
     split (eqb (c .1) n) (λ t. simp t (simp t at e)) (λ f. simp f (holds-append cs ds n (simp f at e)))
+
+-- rows that apply only where a test holds
+pub first-where : (b : Bool) (cs : List Check) → firstOf (onlyWhere b cs) ≡ cond b (firstOf cs) 0
+first-where true [] = refl
+first-where false [] = refl
+first-where true (c ∷ cs) = split (c .0) (λ t. simp t) (λ f. simp f (first-where true cs))
+first-where false (c ∷ cs) = first-where false cs
+
+-- behind others, where the test does not hold, they alter nothing
+pub first-alone : (cs ds : List Check) → risesFrom 0 cs ≡ true → (b : Bool) → b ≡ false → firstOf (cs ++ onlyWhere b ds) ≡ firstOf cs
+first-alone cs ds r b e =
+    let n = firstOf cs in
+    let zero : firstOf (onlyWhere b ds) ≡ 0 = first-where b ds ∙ simp e in
+    first-append 0 cs (onlyWhere b ds) r
+    ∙ rw zero (split (eqb n 0) (λ t. simp t (sym (eqb-true n 0 t))) (λ t. simp t))

@@ -2,7 +2,8 @@
 use Prim.Native.Nat.{ℕ, _+_, _-_, _≤_, _<_}
 use mathlib.Core.Path.{_≡_, refl, sym, ap, _∙_}
 use mathlib.Core.Bool.{Bool, true, false}
-use mathlib.Core.List.{List, [], _++_, append-nil, append-assoc}
+use mathlib.Core.Logic.{_≢_}
+use mathlib.Core.List.{List, [], _∷_, _++_, append-nil, append-assoc}
 use native.Mathlib.Nat.{zero-add, add-zero}
 use native.Mathlib.Omega.{arith}
 use lib.Dec.{ltb}
@@ -144,3 +145,13 @@ put-front l bs = ap (λ (n : ℕ). bs ++ drop n l) (zero-add (length bs))
 pub part-back : (l bs : List ℕ) (at k : ℕ) → length bs ≡ k → take at l ++ (bs ++ drop k (drop at l)) ≡ put l at bs
 unfolding put
 part-back l bs at k e = rw (drop-drop k at l, e) (sym (append-assoc (take at l) bs (drop (at + k) l)))
+
+-- one byte put in: it stands there, and every other stays
+module _ (l : List ℕ) (at b : ℕ) (h : at < length l) where
+  pub one-put : getD (put l at (b ∷ [])) at 0 ≡ b
+  one-put =
+      let z : at - at ≡ 0 = omega arith in
+      put-within l at (b ∷ []) (omega arith) at (omega arith) (omega arith) ∙ rw z
+
+  pub one-beside : (i : ℕ) → i ≢ at → getD (put l at (b ∷ [])) i 0 ≡ getD l i 0
+  one-beside i ne = untouched (λ k. k ≢ at) l at (b ∷ []) (omega arith) (λ k a b q. q (omega arith)) i ne

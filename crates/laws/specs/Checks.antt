@@ -18,6 +18,11 @@ unfoldable pub holdsAt : List Check → ℕ → Bool
 holdsAt [] n = false
 holdsAt (c ∷ cs) n = cond (eqb (c .1) n) (c .0) (holdsAt cs n)
 
+-- rows that apply only where a test holds: elsewhere none of them does
+abbrev pub onlyWhere : Bool → List Check → List Check
+onlyWhere b [] = []
+onlyWhere b (c ∷ cs) = (b && c .0, c .1) ∷ onlyWhere b cs
+
 -- the check of number n is the first of the table that holds
 abbrev pub FirstAt : List Check → ℕ → Type 0
 FirstAt cs n = (holdsAt cs n ≡ true) × ((m : ℕ) → m < n → holdsAt cs m ≡ false)

@@ -1,13 +1,15 @@
 -- Descriptor sizes against 001's own table and examples, computed; and laws of the size bits.
-use Prim.Native.Nat.{ℕ, zero, suc, _≤_, _<_}
-use mathlib.Core.Path.{_≡_, refl}
+use Prim.Native.Nat.{ℕ, zero, suc, _%_, _≤_, _<_}
+use mathlib.Core.Path.{_≡_, refl, sym, _∙_}
 use mathlib.Core.List.{[], _∷_, _++_, map}
 use native.Mathlib.Omega.{arith}
 use lib.ListN.{replicate}
 use lib.Dec.{eqb}
+use borrow.Author.Tests.{eqb-true, eqb-false, eq-eqb, ne-eqb}
 use Rattle.laws.specs.Bytes.{upFrom}
+use Rattle.laws.proofs.Tests.{split}
 use Rattle.laws.proofs.Checks.{first-most}
-use Rattle.table.specs.Descriptor.{sizeBytes, sizeBy, descriptorSize}
+use Rattle.table.specs.Descriptor.{elementsOf, sizeBytes, sizeBy, descriptorSize}
 
 -- 001, 5.2: a Boolean of undefined size, for N from 1 to 32: 1 byte up to 8 points, 2 up to 16, 4 up to 32
 pub decoding-table : map descriptorSize (upFrom 0x0100 32) ≡ replicate 8 1 ++ replicate 8 2 ++ replicate 16 4
@@ -24,6 +26,13 @@ pub other-descriptors : map descriptorSize (0x073F ∷ 0x075F ∷ 0x051F ∷ 0x0
     ≡ 32 ∷ 32 ∷ 64 ∷ 2 ∷ 4 ∷ 0 ∷ 0 ∷ 0 ∷ 2 ∷ 0 ∷ 0 ∷ 1 ∷ []
 unfolding descriptorSize sizeBy
 other-descriptors = refl
+
+-- N is 1 where the count bits are 0
+pub one-element : (d : ℕ) → eqb (elementsOf d) 1 ≡ eqb (d % 32) 0
+one-element d =
+    split (eqb (d % 32) 0)
+    (λ t. eq-eqb (elementsOf d) 1 (omega (arith, eqb-true (d % 32) 0 t)) ∙ sym t)
+    (λ t. ne-eqb (elementsOf d) 1 (λ e. omega (arith, eqb-false (d % 32) 0 t, e)) ∙ sym t)
 
 -- below long, a size names as many bytes as its number
 pub size-small : (s : ℕ) → s < 3 → sizeBytes s ≡ s

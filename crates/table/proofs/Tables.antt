@@ -1,16 +1,18 @@
 -- Lengths that fit and a well-formed table, in words; and what a search in a well-formed table finds.
 use Prim.Native.Nat.{ℕ, zero, suc, _+_, _*_, _%_, _≤_, _<_}
 use mathlib.Core.Path.{_≡_, refl, subst}
-use mathlib.Core.Bool.{Bool, true}
+use mathlib.Core.Bool.{Bool, true, _&&_}
 use mathlib.Core.List.{List, [], _∷_}
 use mathlib.Core.Logic.{_↔_}
 use native.Mathlib.Omega.{arith}
 use lib.ListN.{length, getD, take, drop, length-take, length-drop}
+use lib.Dec.{eqb}
 use borrow.Author.Tests.{leb-true, eqb-true, lt-ltb, le-ltb, le-leb, eq-eqb}
 use Rattle.laws.proofs.Tests.{split, halves}
 use Rattle.table.specs.declared.Attribute.{Attribute}
 use Rattle.table.specs.declared.Found.the-variants.{At}
-use Rattle.table.specs.Table.{entrySize, mostEntries, mostStore, lengthsFit, LengthsFit, attributes, described, entryFits, pairOf, endOf, wellFrom, wellFormed, Ordered, WellFormed, firstIn, named, find, searched, partOf, ownerIn}
+use Rattle.table.specs.Descriptor.{booleanType, typeOf, elementsOf}
+use Rattle.table.specs.Table.{entrySize, mostEntries, mostStore, lengthsFit, LengthsFit, attributes, network, described, entryFits, pairOf, endOf, wellFrom, wellFormed, Ordered, WellFormed, firstIn, named, find, searched, networkOf, firstNetwork, singleBoolean, partOf, ownerIn}
 
 -- lengths that fit, in words
 pub lengths-fit-in-words : (table size : ℕ) → (lengthsFit table size ≡ true) ↔ LengthsFit table size
@@ -44,6 +46,11 @@ entry-fits a e =
       short = leb-true _ _ (q .1);
       described = p .1;
     }
+
+-- and back: what the descriptor decides of one whose fields are in their ranges
+pub fits-by-descriptor : (a : Attribute) → a .object ≤ 31 → a .access ≤ 7 → 1 ≤ a .len → a .len ≤ 255 → entryFits a ≡ described a
+unfolding entryFits
+fits-by-descriptor a o x l m = simp (le-leb (a .object) 31 o, le-leb (a .access) 7 x, le-leb 1 (a .len) l, le-leb (a .len) 255 m)
 
 -- the first record of a table that is well formed from a place on, and the rest
 record Row (least end : ℕ) (a : Attribute) (es : List Attribute) (size : ℕ) : Type 0 where
@@ -133,6 +140,23 @@ found-named t object id a e =
 -- in an ordered table the code's search gives that record
 pub search-finds : (t : List ℕ) (object id : ℕ) → Ordered t → searched t object id ≡ find t object id
 search-finds t object id o = refl
+
+-- the first network record of an object
+pub network-placed : (t : List ℕ) (size object : ℕ) (a : Attribute) → wellFormed t size ≡ true → firstNetwork t object ≡ At a
+    → Placed (attributes t) size a
+unfolding firstNetwork
+network-placed t size object a w e = placed (networkOf object) t size a w e
+
+pub network-its : (t : List ℕ) (object : ℕ) (a : Attribute) → firstNetwork t object ≡ At a → (a .object ≡ object) × (network a ≡ true)
+unfolding firstNetwork
+network-its t object a e =
+    let n = halves _ (found-passes (networkOf object) (attributes t) a e) in
+    (eqb-true _ _ (n .1), n .0)
+
+-- a single Boolean takes one byte
+pub single-byte : (a : Attribute) → singleBoolean a ≡ true → a .len ≡ 1
+unfolding singleBoolean
+single-byte a e = eqb-true (a .len) 1 (halves (eqb (typeOf (a .descriptor)) booleanType && eqb (elementsOf (a .descriptor)) 1) e .1)
 
 -- ---- well-formedness in words
 

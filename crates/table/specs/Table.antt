@@ -9,7 +9,7 @@ use Rattle.laws.specs.Bytes.{bits, byteAt}
 use Rattle.table.specs.declared.Attribute.{Attribute}
 use Rattle.table.specs.declared.Found.{Found}
 use Rattle.table.specs.declared.Found.the-variants.{At, Nothing}
-use Rattle.table.specs.Descriptor.{descriptorSize}
+use Rattle.table.specs.Descriptor.{booleanType, typeOf, elementsOf, descriptorSize}
 
 -- "8-byte records, no header, at most 1,024"
 abbrev pub entrySize : ℕ
@@ -119,6 +119,17 @@ find t object id = firstIn (named object id) (attributes t)
 -- what the code's search gives, in every table; where the table is ordered this is what `find` gives (`search-finds`), and only there it need be
 abbrev pub searched : List ℕ → ℕ → ℕ → Found
 searched t object id = find t object id
+
+-- the first network record of an object (02, 2026-01)
+abbrev pub networkOf : ℕ → Attribute → Bool
+networkOf object a = network a && eqb (a .object) object
+
+unfoldable pub firstNetwork : List ℕ → ℕ → Found
+firstNetwork t object = firstIn (networkOf object) (attributes t)
+
+-- "a single Boolean (N = 1, one byte)" (02, 2026-01)
+unfoldable pub singleBoolean : Attribute → Bool
+singleBoolean a = eqb (typeOf (a .descriptor)) booleanType && eqb (elementsOf (a .descriptor)) 1 && eqb (a .len) 1
 
 -- "the attribute's bytes, which the lookup hands back as a part of the caller's store": of the record that `find` gives; empty where it would
 -- run past the store's end

@@ -6,7 +6,7 @@ ghost use Rattle.table.specs.Descriptor.{sizeBytes, booleanSize, realSiz
 // The type numbers that are served (001, figure 11; 01 for Signed).
 const SIGNED: u16 = 0;
 
-const BOOLEAN: u16 = 1;
+pub(crate) const BOOLEAN: u16 = 1;
 
 const UNSIGNED: u16 = 4;
 

@@ -2,8 +2,9 @@
 ghost use mathlib.Core.Path.{_≡_};
 ghost use Prim.Native.Nat.{_+_, _*_, _≤_};
 ghost use lib.ListN.{length, drop};
-ghost use Rattle.table.specs.Table.{entrySize, attributeOf, readable, writable, entryFits, pairOf, endOf, follows as Table·follows, wellFormed};
+ghost use Rattle.table.specs.Table.{entrySize, attributeOf, readable, writable, network, entryFits, singleBoolean, pairOf, endOf, follows as Table·follows, wellFormed};
 use crate::Attribute;
+use crate::descriptor::BOOLEAN;
 use crate::descriptor::descriptor_size;
 use crate::sizes::ENTRY;
 
@@ -42,6 +43,26 @@ pub fn may_write(a: Attribute) -> bool
     a.access / 2 % 2 == 1
 }
 
+// Whether it is network data.
+pub(crate) fn is_network(a: Attribute) -> bool
+    ensures { λ r. ⌜ r ≡ network a ⌝ }
+{
+    a.access / 4 % 2 == 1
+}
+
+// Whether it is one point in one byte: a Boolean of undefined size, or sized as a byte (02, 2026-01).
+pub fn single_boolean(a: Attribute) -> bool
+    ensures { λ r. ⌜ r ≡ singleBoolean a ⌝ }
+{
+    if a.descriptor / 256 % 16 != BOOLEAN {
+        return false;
+    }
+    if a.descriptor % 32 != 0 {
+        return false;
+    }
+    a.len == 1
+}
+
 // Whether a record by itself is as 01's table says.
 fn entry_fits(a: Attribute) -> bool
     ensures { λ r. ⌜ r ≡ entryFits a ⌝ }
@@ -55,7 +76,7 @@ fn entry_fits(a: Attribute) -> bool
     if a.len < 1 {
         return false;
     }
-    if a.access / 4 % 2 != 1 {
+    if !is_network(a) {
         return a.descriptor == 0;
     }
     a.len == descriptor_size(a.descriptor)

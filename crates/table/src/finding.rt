@@ -1,10 +1,11 @@
 // Finding an attribute by its object and ID, and its part of the store.
 ghost use mathlib.Core.Path.{_≡_};
-ghost use Rattle.table.specs.Table.{named as Table·named, searched, partOf};
+ghost use Rattle.table.specs.Table.{named as Table·named, searched, networkOf, firstNetwork, partOf};
 use crate::Attribute;
 use crate::Found;
 use crate::entries::attribute_at;
 use crate::entries::end_of;
+use crate::entries::is_network;
 use crate::sizes::ENTRY;
 
 // Whether it is the attribute of this object and ID.
@@ -28,6 +29,31 @@ pub fn find(table: &[u8], object: u8, id: u8) -> Found
             return Found::At(a);
         }
         at += ENTRY;
+    }
+    Found::Nothing
+}
+
+// Whether it is network data of this object.
+fn network_of(object: u8, a: Attribute) -> bool
+    ensures { λ r. ⌜ r ≡ networkOf object a ⌝ }
+{
+    if is_network(a) {
+        return a.object == object;
+    }
+    false
+}
+
+// The first network record of an object, in table order (02, 2026-01).
+pub fn first_network(table: &[u8], object: u8) -> Found
+    ensures { λ r. ⌜ r ≡ firstNetwork (now (table .entry)) object ⌝ }
+{
+    let mut place: usize = 0;
+    while place + ENTRY <= table.len() {
+        let a = attribute_at(table, place);
+        if network_of(object, a) {
+            return Found::At(a);
+        }
+        place += ENTRY;
     }
     Found::Nothing
 }

@@ -7,8 +7,10 @@ mod sizes;
 pub use descriptor::descriptor_size;
 pub use entries::may_read;
 pub use entries::may_write;
+pub use entries::single_boolean;
 pub use entries::well_formed;
 pub use finding::find;
+pub use finding::first_network;
 pub use finding::part;
 pub use sizes::lengths_fit;
 

@@ -56,6 +56,21 @@ fn print_data(d: Data) {
     }
 }
 
+// 000, figure 3.4.
+fn print_short_service(service: u8) {
+    match service {
+        codec::CHANGE_OFF => print_text(b" Change of State OFF"),
+        codec::CHANGE_ON => print_text(b" Change of State ON"),
+        codec::CHANGE_OFF_ACK => print_text(b" Change of State OFF ACK"),
+        codec::CHANGE_ON_ACK => print_text(b" Change of State ON ACK"),
+        codec::WRITE_OFF => print_text(b" Write OFF State"),
+        codec::WRITE_ON => print_text(b" Write ON State"),
+        codec::WRITE_OFF_ACK => print_text(b" Write OFF State ACK"),
+        codec::WRITE_ON_ACK => print_text(b" Write ON State ACK"),
+        _ => print_number(b" service ", service),
+    }
+}
+
 pub(crate) fn print_message(m: Message) {
     match m {
         Message::Short {
@@ -64,7 +79,8 @@ pub(crate) fn print_message(m: Message) {
             service,
         } => {
             print_address(dir, address);
-            print_number(b" short ", service);
+            print_text(b" short");
+            print_short_service(service);
         }
         Message::Plain { about, body } => {
             print_subject(about);

@@ -5,7 +5,7 @@ use mathlib.Core.Bool.{true, cond}
 use mathlib.Core.List.{List, [], _∷_, _++_}
 use native.Mathlib.Omega.{arith}
 use lib.ListN.{length, take, drop}
-use borrow.Author.Tests.{le-leb}
+use borrow.Author.Tests.{le-leb, lt-ltb}
 use borrow.Rule.Slice.PartMut.{putMid, put-same, mid-len}
 use Rattle.laws.specs.Put.{put}
 use Rattle.laws.proofs.Bytes.{copied}
@@ -20,7 +20,7 @@ use Rattle.join.specs.Code.{keepFits, joinFits, joinedFrom}
 use Rattle.join.proofs.Parts.{fit-keeps, fit-joins, joins-whole, put-mid}
 use Rattle.join.proofs.Places.{base-inside}
 use Rattle.guest.specs.Checks.{fragmentBytes, joiner, pieceOf}
-use Rattle.writes.specs.Code.{WriteReady, KeepReady, storedData, joinedBytes, joinedFits, storedJoined, keptPiece}
+use Rattle.writes.specs.Code.{WriteReady, KeepReady, storedData, storedState, joinedBytes, joinedFits, storedJoined, keptPiece}
 
 -- ---- what the code leaves, from what the functions that it calls leave
 
@@ -77,6 +77,10 @@ pub data-stored : (a : Attribute) (b : Data) (store : List ℕ) → WriteReady a
 unfolding storedData
 data-stored a b store r =
     simp (le-leb (b .len) mostData (r .bytes), le-leb (a .offset + b .len) (length store) (omega (arith, r .inside, r .whole)))
+
+pub state-stored : (a : Attribute) (state : ℕ) (store : List ℕ) → a .offset < length store → storedState a state store ≡ put store (a .offset) (state ∷ [])
+unfolding storedState
+state-stored a state store h = simp (lt-ltb (a .offset) (length store) h)
 
 module _ (a : Attribute) (number total : ℕ) (b : Data) (work : List ℕ) (r : KeepReady a number total b (length work)) where
   -- its object's record is inside the area

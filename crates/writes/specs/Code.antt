@@ -3,9 +3,9 @@
 use Prim.Native.Nat.{ℕ, _+_, _≤_}
 use mathlib.Core.Path.{_≡_}
 use mathlib.Core.Bool.{Bool, cond, _&&_}
-use mathlib.Core.List.{List}
+use mathlib.Core.List.{List, [], _∷_}
 use lib.ListN.{length}
-use lib.Dec.{leb}
+use lib.Dec.{leb, ltb}
 use Rattle.laws.specs.Put.{put}
 use Rattle.octets.specs.declared.Data.{Data}
 use Rattle.octets.specs.Data.{mostData, bytesOf}
@@ -36,6 +36,10 @@ JoinReady a number total b store work = KeepReady a number total b work × (endO
 -- the store after a whole Write: it stays where the data would run past its end, or counts more bytes than it has places for
 unfoldable pub storedData : Attribute → Data → List ℕ → List ℕ
 storedData a b store = cond (leb (b .len) mostData && leb (a .offset + b .len) (length store)) (put store (a .offset) (bytesOf b)) store
+
+-- and after a short Write, which gives its one byte a state
+unfoldable pub storedState : Attribute → ℕ → List ℕ → List ℕ
+storedState a state store = cond (ltb (a .offset) (length store)) (put store (a .offset) (state ∷ [])) store
 
 -- the bytes of a message whose last fragment has come: those that the object's record holds, and the fragment's own
 abbrev pub joinedBytes : Attribute → ℕ → Data → List ℕ → List ℕ

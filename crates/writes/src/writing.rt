@@ -1,6 +1,6 @@
 // A Write's data, put where they belong. What does not fit alters nothing, and neither does data that counts more bytes than it has places for.
 ghost use mathlib.Core.Path.{_≡_};
-ghost use Rattle.writes.specs.Code.{storedData, storedJoined, keptPiece};
+ghost use Rattle.writes.specs.Code.{storedData, storedState, storedJoined, keptPiece};
 use octets::Data;
 use table::Attribute;
 
@@ -19,6 +19,17 @@ pub fn store_data(to: Attribute, body: Data, store: &mut [u8])
     }
     let places = octets::places_of(body);
     bytes::copy(&places[0..n], &mut store[at..end]);
+}
+
+// A short Write: the state is the attribute's one byte.
+pub fn store_state(to: Attribute, state: u8, store: &mut [u8])
+    ensures { λ _. ⌜ now (store .exit) ≡ storedState to state (now (store .entry)) ⌝ }
+{
+    let place = to.offset as usize;
+    if store.len() <= place {
+        return;
+    }
+    store[place] = state;
 }
 
 // The last fragment: the joined bytes are written into the attribute's part of the store.
