@@ -19,14 +19,14 @@ use Rattle.codec.specs.declared.Header.{Header}
 use Rattle.codec.specs.declared.Message.the-variants.{Short, Plain}
 use Rattle.codec.specs.declared.Subject.{Subject}
 use Rattle.codec.specs.Names.{frameSize, mostAddress, mostFragmentData, lowestLong, successful, erroneous}
-use Rattle.codec.specs.Writing.{subjectFits, shortFits, frameOf, imageOf}
+use Rattle.codec.specs.Writing.{subjectFits, frameOf, imageOf}
 use Rattle.codec.specs.Code.{longPlaces, shortPlaces, putTen, putLong, putShort}
 use Rattle.codec.proofs.Fits.{subject-fits, short-fits}
 use Rattle.codec.proofs.Images.{places-are-image, short-places-are-image}
 use Rattle.guest.specs.Checks.{leastOut, fragmentBytes}
 use Rattle.guest.specs.Step.{answering, errorFrame, successFrame, acknowledgeOf, shortFrame, fragmentPart, fragmentFrame, fragmentFrames, readFrames, flat, sent}
-use Rattle.guest.proofs.Frames.{fragment-ten, fragments-ten, fragments-count, flat-length, answering-fits, acknowledge-most}
-use Rattle.answers.specs.Code.{Answerable, answerable, single, refusedWith, acknowledgedWith, shortAcknowledged, partFits, partCount, partSent}
+use Rattle.guest.proofs.Frames.{fragment-ten, fragments-ten, fragments-count, flat-length, answering-fits, acknowledge-fits}
+use Rattle.answers.specs.Code.{Answerable, answerable, inFront, single, refusedWith, acknowledgedWith, shortAcknowledged, partFits, partCount, partSent}
 
 -- a record of the output, lent to the codec: its ten bytes are put there
 ten-there : (l : List ℕ) → length l ≡ frameSize → (out : List ℕ) (at : ℕ) → at + frameSize ≤ length out
@@ -72,6 +72,10 @@ fragments-more u bs out n h =
 
 pub sent-one : (f out : List ℕ) → sent (f ∷ []) out ≡ put out 0 f
 sent-one f out = ap (put out 0) (append-nil f)
+
+-- a record put in front is the one frame of a reply
+front-sent : (l f out : List ℕ) → leastOut ≤ length out → l ≡ f → inFront l out ≡ sent (f ∷ []) out
+front-sent l f out room e = simp (le-leb frameSize (length out) (omega arith)) (rw e (sym (sent-one f out)))
 
 -- the data of a fragment has places in its frame
 pub part-tidy : (bs : List ℕ) (n : ℕ) → tidy mostFragmentData (dataOf (fragmentPart bs n)) ≡ true
@@ -135,8 +139,8 @@ module _ (own : ℕ) (h : Header) (out : List ℕ) (f : Answerable own h (length
   unfolding single imageOf frameOf
   single-sent response bs m k =
       let u = answering own h response in
-      simp (le-leb frameSize (length out) (omega (arith, f .room)))
-      (rw (places-are-image u 0 (dataOf bs) (subject-ready response m) (omega arith) (tidy-data bs k mostData k)) (sym (sent-one (imageOf (Plain u (dataOf bs))) out)))
+      front-sent (longPlaces u 0 (dataOf bs)) (imageOf (Plain u (dataOf bs))) out (f .room)
+      (places-are-image u 0 (dataOf bs) (subject-ready response m) (omega arith) (tidy-data bs k mostData k))
 
   pub refused : (number : ℕ) → refusedWith own h number out ≡ sent (errorFrame own h number ∷ []) out
   unfolding errorFrame
@@ -160,12 +164,9 @@ module _ (own : ℕ) (h : Header) (out : List ℕ) (f : Answerable own h (length
     part-sent = simp part-fits
 
 -- the acknowledge of a short Write
-short-ready : (own : ℕ) (h : Header) → own ≤ mostAddress → shortFits 1 own (acknowledgeOf h) ≡ true
-short-ready own h o = short-fits 1 own (acknowledgeOf h) .1 (record { dir = omega arith; address = o; service = acknowledge-most h })
-
 pub short-acknowledged : (own : ℕ) (h : Header) (out : List ℕ) → own ≤ mostAddress → leastOut ≤ length out
     → shortAcknowledged own h out ≡ sent (shortFrame own h ∷ []) out
 unfolding shortAcknowledged shortFrame
 short-acknowledged own h out o room =
-    simp (le-leb frameSize (length out) (omega arith))
-    (rw (short-places-are-image 1 own (acknowledgeOf h) (short-ready own h o)) (sym (sent-one (imageOf (Short 1 own (acknowledgeOf h))) out)))
+    front-sent (shortPlaces 1 own (acknowledgeOf h)) (imageOf (Short 1 own (acknowledgeOf h))) out room
+    (short-places-are-image 1 own (acknowledgeOf h) (short-fits 1 own (acknowledgeOf h) .1 (acknowledge-fits own h o)))

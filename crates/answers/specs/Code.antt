@@ -1,4 +1,5 @@
--- What the code puts, for every input; `refused`, `acknowledged`, `short-acknowledged` and `part-sent` say that of what fits it is what 01 says.
+-- What the code puts, for every input; `refused`, `acknowledged`, `short-acknowledged` and `part-sent` say that of what fits it is what 01
+-- and 02 say.
 use Prim.Native.Nat.{ℕ, _+_, _*_, _≤_}
 use mathlib.Core.Path.{_≡_}
 use mathlib.Core.Bool.{Bool, true, cond, _&&_}
@@ -29,9 +30,13 @@ unfoldable pub answerable : ℕ → Header → ℕ → Bool
 answerable own h out =
     leb own mostAddress && leb lowestLong (h .service) && leb (h .service) 7 && leb (h .object) 31 && leb leastOut out
 
--- the output after one frame, flag clear, with this data: each field is cut to the bits that it has in the record, and an output that has no room stays
+-- the output after a record is put in front; one that has no room stays
+abbrev pub inFront : List ℕ → List ℕ → List ℕ
+inFront f out = cond (leb frameSize (length out)) (put out 0 f) out
+
+-- after one frame, flag clear, with this data: each field is cut to the bits that it has in the record
 unfoldable pub single : ℕ → Header → ℕ → Data → List ℕ → List ℕ
-single own h response body out = cond (leb frameSize (length out)) (put out 0 (longPlaces (answering own h response) 0 body)) out
+single own h response body out = inFront (longPlaces (answering own h response) 0 body) out
 
 -- after a refusal: whatever its number, the frame has no data
 abbrev pub refusedWith : ℕ → Header → ℕ → List ℕ → List ℕ
@@ -43,7 +48,7 @@ acknowledgedWith own h out = single own h successful (dataOf []) out
 
 -- after a short Write that is done
 unfoldable pub shortAcknowledged : ℕ → Header → List ℕ → List ℕ
-shortAcknowledged own h out = cond (leb frameSize (length out)) (put out 0 (shortPlaces 1 own (acknowledgeOf h))) out
+shortAcknowledged own h out = inFront (shortPlaces 1 own (acknowledgeOf h)) out
 
 -- what fragment n of so many bytes needs: a subject that a frame carries, number and total of one byte, and room in its place
 pub record PieceReady (about : Subject) (n total out : ℕ) : Type 0 where

@@ -20,7 +20,7 @@ use Rattle.codec.specs.Names.{mostAddress, writeOn, lowestLong, successful, err
 use Rattle.codec.specs.Fields.{headerOf}
 use Rattle.codec.specs.Reading.{readOf}
 use Rattle.codec.specs.Writing.{imageOf}
-use Rattle.codec.proofs.Fits.{SubjectFits}
+use Rattle.codec.proofs.Fits.{SubjectFits, ShortFits}
 use Rattle.codec.proofs.Images.{short-length, plain-length, fragment-length}
 use Rattle.codec.proofs.Trips.{written-read, short-carried, plain-carried, fragment-carried}
 use Rattle.table.specs.declared.Attribute.{Attribute}
@@ -146,15 +146,16 @@ pub answering-fits : (own : ℕ) (h : Header) (response : ℕ) → own ≤ mostA
     → SubjectFits (answering own h response)
 answering-fits own h response o l m p b = record { dir = omega arith; address = o; named = l; service = m; response = p; object = b }
 
-pub acknowledge-most : (h : Header) → acknowledgeOf h ≤ 7
-acknowledge-most h = split (eqb (h .service) writeOn) (λ t. simp t (omega arith)) (λ t. simp t (omega arith))
+-- and so is what acknowledges a short Write
+pub acknowledge-fits : (own : ℕ) (h : Header) → own ≤ mostAddress → ShortFits 1 own (acknowledgeOf h)
+acknowledge-fits own h o = record { dir = omega arith; address = o; service = most }
+  where
+    most : acknowledgeOf h ≤ 7
+    most = split (eqb (h .service) writeOn) (λ t. simp t (omega arith)) (λ t. simp t (omega arith))
 
--- the acknowledge of a short Write says so
 pub short-reads : (own : ℕ) (h : Header) → own ≤ mostAddress → readOf (shortFrame own h) ≡ Got (Short 1 own (acknowledgeOf h))
 unfolding shortFrame
-short-reads own h o =
-    written-read (Short 1 own (acknowledgeOf h))
-    (short-carried 1 own (acknowledgeOf h) (record { dir = omega arith; address = o; service = acknowledge-most h }))
+short-reads own h o = written-read (Short 1 own (acknowledgeOf h)) (short-carried 1 own (acknowledgeOf h) (acknowledge-fits own h o))
 
 module _ (own : ℕ) (h : Header) (o : own ≤ mostAddress) (l : lowestLong ≤ h .service) (m : h .service ≤ 7) (b : h .object ≤ 31) where
   pub error-reads : (number : ℕ) → readOf (errorFrame own h number) ≡ Got (Plain (answering own h erroneous) (dataOf []))

@@ -3,7 +3,7 @@ use Prim.Native.Nat.{ℕ, _+_, _≤_, _<_}
 use mathlib.Core.Path.{_≡_, refl, sym, ap, subst, _∙_}
 use mathlib.Core.Logic.{_≢_}
 use mathlib.Core.Option.{Option, none, some}
-use mathlib.Core.List.{List, [], _∷_}
+use mathlib.Core.List.{List}
 use native.Mathlib.Omega.{arith}
 use lib.ListN.{length}
 use lib.Seq.{ext-getD}
@@ -24,7 +24,7 @@ use Rattle.guest.specs.declared.Plan.the-variants.{Error, Read, Write, J
 use Rattle.guest.specs.Checks.{Setting, joiner, pieceOf}
 use Rattle.guest.specs.Step.{Judged, quiet, switches, asks, judgedOf, planOwner, owner, plain, fragmented, short, Effect, ignore, refuse, show, write, keep, joinEffect, planEffect, effectOf, joinedIn, Areas, storeAfter, workAfter, perform, readFrames, Reply, reply, replyTo, next, answer, ownerOf}
 use Rattle.guest.specs.Belongs.{inPart, inRecord, Same, Good}
-use Rattle.guest.proofs.Plans.{Its, ForSwitch, Sound, SoundJudged, sound}
+use Rattle.guest.proofs.Plans.{Its, Sound, SoundJudged, sound}
 
 same-refl : (t : List ℕ) (o : ℕ) (x : Areas) → Same t o x x
 same-refl t o x = record { store = λ i p. refl; work = λ i p. refl }
@@ -171,11 +171,8 @@ module _ (s : Setting) (o : ℕ) where
 -- ---- plans: their effect keeps to their owner
 
 module _ (s : Setting) where
-  owned : (h : Header) (a : Attribute) → Its s h a → Owned s (a .object) a
-  owned h a z = record { object = refl; place = z .place; area = z .area }
-
-  switch-within : (h : Header) (a : Attribute) (state : ℕ) → ForSwitch s h a → Within s (a .object) (write a (state ∷ []) short)
-  switch-within h a state z = (record { object = refl; place = z .place; area = z .area }, sym (z .one))
+  owned : (a : Attribute) → Placed (attributes (s .table)) (s .storeLen) a → s .workLen ≡ areaSize → Owned s (a .object) a
+  owned a p w = record { object = refl; place = p; area = w }
 
   pub record-of : (h : Header) (a : Attribute) → Its s h a → (x : Areas) → Good s x → base (a .object) + recordSize ≤ length (x .work)
   record-of h a z x g = room (a .object) (x .work) (z .place .fits .object) (g .work ∙ z .area)
@@ -189,11 +186,11 @@ module _ (s : Setting) where
   within : (h : Header) (p : Plan) → Sound s h p → (x : Areas) → Good s x → Within s (planOwner p) (planEffect (joinedIn (x .work)) p)
   unfolding joinedIn
   within h (Error n q) z x g = tt
-  within h (Read a) z x g = owned h a z
-  within h (Write a b) z x g = (owned h a (z .its), z .whole)
+  within h (Read a) z x g = owned a (z .place) (z .area)
+  within h (Write a b) z x g = (owned a (z .its .place) (z .its .area), z .whole)
   within h (Join a number total b) z x g =
       let k : Piece = pieceOf (a .id) number total b in
-      join-within a k (owned h a (z .its)) (z .fits) (z .total-len) (joinedIn (x .work) a k)
+      join-within a k (owned a (z .its .place) (z .its .area)) (z .fits) (z .total-len) (joinedIn (x .work) a k)
       (joined-length joiner k (z .fits) (load joiner (base (a .object)) (x .work)) (held-size joiner (base (a .object)) (x .work) (record-of h a (z .its) x g)))
 
   -- two states that the owner cannot tell apart give the same effect
@@ -215,7 +212,18 @@ module _ (s : Setting) where
   plan-below h (Write a b) z = z .its .place .fits .object
   plan-below h (Join a number total b) z = z .its .place .fits .object
 
-  -- ---- frames: nobody's, or their plan's owner's
+  -- ---- frames: nobody's, or their owner's
+
+  -- the owner of a frame that has one
+  abbrev keeper : Judged → ℕ
+  keeper (quiet n) = 0
+  keeper (switches a state) = a .object
+  keeper (asks p) = planOwner p
+
+  keeper-is : (j : Judged) (o : ℕ) → owner j ≡ some o → keeper j ≡ o
+  keeper-is (quiet n) o m = let q : _≡_ {A = ℕ} 0 1 = cc in absurd (omega arith)
+  keeper-is (switches a state) o m = cc
+  keeper-is (asks p) o m = cc
 
   abbrev after : Judged → Areas → Areas
   after j x = perform (effectOf (joinedIn (x .work)) j) x
@@ -224,38 +232,44 @@ module _ (s : Setting) where
   said h j x = replyTo (s .own) h (effectOf (joinedIn (x .work)) j) (x .store)
 
   module _ (h : Header) where
+    judged-within : (j : Judged) → SoundJudged s h j → (x : Areas) → Good s x → Within s (keeper j) (effectOf (joinedIn (x .work)) j)
+    judged-within (quiet n) z x g = tt
+    judged-within (switches a state) z x g = (owned a (z .place) (z .area), sym (z .one))
+    judged-within (asks p) z x g = within h p z x g
+
+    judged-same : (j : Judged) → SoundJudged s h j → (x y : Areas) → Good s x → Good s y → Same (s .table) (keeper j) x y
+        → effectOf (joinedIn (x .work)) j ≡ effectOf (joinedIn (y .work)) j
+    judged-same (quiet n) z x y gx gy e = refl
+    judged-same (switches a state) z x y gx gy e = refl
+    judged-same (asks p) z x y gx gy e = effect-same h p z x y gx gy e
+
+    judged-below : (j : Judged) → SoundJudged s h j → keeper j ≤ 31
+    judged-below (quiet n) z = omega arith
+    judged-below (switches a state) z = z .place .fits .object
+    judged-below (asks p) z = plan-below h p z
+
     good-after : (j : Judged) → SoundJudged s h j → (x : Areas) → Good s x → Good s (after j x)
-    unfolding perform
-    good-after (quiet n) z x g = g
-    good-after (switches a state) z x g = good s (a .object) (write a (state ∷ []) short) (switch-within h a state z) x g
-    good-after (asks p) z x g = good s (planOwner p) (planEffect (joinedIn (x .work)) p) (within h p z x g) x g
+    good-after j z x g = good s (keeper j) (effectOf (joinedIn (x .work)) j) (judged-within j z x g) x g
+
+    elsewhere : (j : Judged) → SoundJudged s h j → (o : ℕ) → o ≢ keeper j → (x : Areas) → Good s x → Same (s .table) o (after j x) x
+    elsewhere j z o ne x g = other s (keeper j) o ne (effectOf (joinedIn (x .work)) j) (judged-within j z x g) x g
 
     others-after : (j : Judged) → SoundJudged s h j → (o : ℕ) → owner j ≢ some o → (x : Areas) → Good s x → Same (s .table) o (after j x) x
     unfolding perform
     others-after (quiet n) z o ne x g = same-refl (s .table) o x
-    others-after (switches a state) z o ne x g =
-        other s (a .object) o (λ e. ne (ap {B = Option ℕ} some (sym e))) (write a (state ∷ []) short) (switch-within h a state z) x g
-    others-after (asks p) z o ne x g =
-        other s (planOwner p) o (λ e. ne (ap {B = Option ℕ} some (sym e))) (planEffect (joinedIn (x .work)) p) (within h p z x g) x g
+    others-after (switches a state) z o ne x g = elsewhere (switches a state) z o (λ e. ne (ap {B = Option ℕ} some (sym e))) x g
+    others-after (asks p) z o ne x g = elsewhere (asks p) z o (λ e. ne (ap {B = Option ℕ} some (sym e))) x g
 
     own-after : (j : Judged) → SoundJudged s h j → (o : ℕ) → owner j ≡ some o → (x y : Areas) → Good s x → Good s y → Same (s .table) o x y
         → Same (s .table) o (after j x) (after j y) × (said h j x ≡ said h j y)
-    own-after (quiet n) z o m x y gx gy e = let q : _≡_ {A = ℕ} 0 1 = cc in absurd (omega arith)
-    own-after (switches a state) z o m x y gx gy e =
-        let q : a .object ≡ o = cc in
-        let same : Same (s .table) (a .object) x y = subst (λ (k : ℕ). Same (s .table) k x y) (sym q) e in
-        let w = switch-within h a state z in (
-          subst (λ (k : ℕ). Same (s .table) k (after (switches a state) x) (after (switches a state) y)) q (next-alike s (a .object) x y gx gy same _ w),
-          told s (a .object) x y gx gy same h _ w,
-        )
-    own-after (asks p) z o m x y gx gy e =
-        let q : planOwner p ≡ o = cc in
-        let same : Same (s .table) (planOwner p) x y = subst (λ (k : ℕ). Same (s .table) k x y) (sym q) e in
-        let w = within h p z x gx in
-        let alike = effect-same h p z x y gx gy same in (
-          subst (λ (k : ℕ). Same (s .table) k (after (asks p) x) (after (asks p) y)) q
-              (subst (λ (f : Effect). Same (s .table) (planOwner p) (after (asks p) x) (perform f y)) alike (next-alike s (planOwner p) x y gx gy same _ w)),
-          subst (λ (f : Effect). said h (asks p) x ≡ replyTo (s .own) h f (y .store)) alike (told s (planOwner p) x y gx gy same h _ w),
+    own-after j z o m x y gx gy e =
+        let q = keeper-is j o m in
+        let same : Same (s .table) (keeper j) x y = subst (λ (k : ℕ). Same (s .table) k x y) (sym q) e in
+        let w = judged-within j z x gx in
+        let alike = judged-same j z x y gx gy same in (
+          subst (λ (k : ℕ). Same (s .table) k (after j x) (after j y)) q
+              (subst (λ (f : Effect). Same (s .table) (keeper j) (after j x) (perform f y)) alike (next-alike s (keeper j) x y gx gy same _ w)),
+          subst (λ (f : Effect). said h j x ≡ replyTo (s .own) h f (y .store)) alike (told s (keeper j) x y gx gy same h _ w),
         )
 
     free-said : (j : Judged) → owner j ≡ none → (x y : Areas) → said h j x ≡ said h j y
@@ -265,9 +279,7 @@ module _ (s : Setting) where
     free-said (asks p) m x y = let q : _≡_ {A = ℕ} 0 1 = cc in absurd (omega arith)
 
     below : (j : Judged) → SoundJudged s h j → (o : ℕ) → owner j ≡ some o → o < recordCount
-    below (quiet n) z o e = let q : _≡_ {A = ℕ} 0 1 = cc in absurd (omega arith)
-    below (switches a state) z o e = let q : a .object ≡ o = cc in omega (arith, z .place .fits .object)
-    below (asks p) z o e = let q : planOwner p ≡ o = cc in omega (arith, plan-below h p z)
+    below j z o m = omega (arith, judged-below j z, keeper-is j o m)
 
   pub next-good : (r : List ℕ) (x : Areas) → Good s x → Good s (next s r x)
   next-good r = good-after (headerOf r) (judgedOf s r) (sound s r)

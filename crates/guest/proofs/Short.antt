@@ -3,7 +3,7 @@ use Prim.Native.Nat.{ℕ, _≤_}
 use mathlib.Core.Path.{_≡_, refl, sym, ap, _∙_}
 use mathlib.Core.Bool.{true, cond, not}
 use mathlib.Core.Option.{Option, none, some}
-use mathlib.Core.List.{List, [], _∷_}
+use mathlib.Core.List.{List}
 use native.Mathlib.Omega.{arith}
 use lib.ListN.{length}
 use lib.Dec.{eqb}
@@ -14,25 +14,19 @@ use Rattle.laws.proofs.Checks.{first-alone, first-most}
 use Rattle.laws.proofs.Tests.{split}
 use Rattle.codec.specs.declared.Header.{Header}
 use Rattle.codec.specs.Fields.{headerOf}
-use Rattle.codec.specs.Reading.{barred, messageOf}
+use Rattle.codec.specs.Reading.{messageOf}
 use Rattle.table.specs.declared.Found.{Found}
 use Rattle.table.specs.declared.Found.the-variants.{At, Nothing}
 use Rattle.table.specs.Table.{firstNetwork}
 use Rattle.table.proofs.Tables.{network-its}
-use Rattle.guest.specs.Checks.{Setting, misfit, illFormed, notForUs, inShort, noService, longChecks, soughtIn, planChecks}
+use Rattle.guest.specs.Checks.{Setting, inShort, frontChecks, longChecks, soughtIn, planChecks}
 use Rattle.guest.specs.Step.{Judged, quiet, switched, passing, refused, judgedOf, owner, effectOf, joinedIn, Areas, shortFrame, Reply, replyTo, answer, ownerOf}
 use Rattle.guest.proofs.Plans.{sought-short, short-found}
 
 module _ (s : Setting) (r : List ℕ) (l : inShort (headerOf r) ≡ true) where
   -- checks 1 to 5 decide it
   five : List Check
-  five =
-      (misfit s r, 1)
-      ∷ (illFormed s, 2)
-      ∷ (barred (headerOf r), 3)
-      ∷ (notForUs (s .own) (headerOf r), 4)
-      ∷ (noService (headerOf r) (firstNetwork (s .table) 0), 5)
-      ∷ []
+  five = frontChecks s r (headerOf r) (firstNetwork (s .table) 0)
 
   first-of-five : firstOf (planChecks s r) ≡ firstOf five
   unfolding five

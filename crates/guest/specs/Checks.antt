@@ -1,4 +1,4 @@
--- The checks of a frame (01, "One frame, one reply"), each beside its row, in one ordered list.
+-- The checks of a frame (01, "One frame, one reply"; 02, 2026-01, for the short form), each beside its row, in one ordered list.
 use Prim.Native.Nat.{ℕ, _*_}
 use mathlib.Core.Bool.{Bool, true, false, cond, not, _&&_, _||_}
 use mathlib.Core.List.{List, [], _∷_, _++_}
@@ -134,7 +134,17 @@ outOfOrder (Short dir address service) work = false
 outOfOrder (Plain u b) work = false
 outOfOrder (Fragment u number total b) work = astray joiner (load joiner (base (u .object)) work) (pieceOf (u .id) number total b)
 
--- checks 6 to 13, which look at a long form
+-- checks 1 to 5, of every frame
+abbrev pub frontChecks : Setting → List ℕ → Header → Found → List Check
+frontChecks s r h found =
+    (misfit s r, 1)
+    ∷ (illFormed s, 2)
+    ∷ (barred h, 3)
+    ∷ (notForUs (s .own) h, 4)
+    ∷ (noService h found, 5)
+    ∷ []
+
+-- checks 6 to 13, of a long form
 abbrev pub longChecks : Header → Message → Found → List Check
 longChecks h m found =
     (notRequest h, 6)
@@ -149,13 +159,7 @@ longChecks h m found =
 
 -- checks 1 to 13: no state decides them. "Checks 6 to 14 don't apply to" a short Write (02, 2026-01)
 abbrev pub stateless : Setting → List ℕ → Header → Message → Found → List Check
-stateless s r h m found =
-    (misfit s r, 1)
-    ∷ (illFormed s, 2)
-    ∷ (barred h, 3)
-    ∷ (notForUs (s .own) h, 4)
-    ∷ (noService h found, 5)
-    ∷ onlyWhere (not (inShort h)) (longChecks h m found)
+stateless s r h m found = frontChecks s r h found ++ onlyWhere (not (inShort h)) (longChecks h m found)
 
 -- the record that a frame is about: in short form "the first network record of object 0" (02, 2026-01), else that of its object and ID
 unfoldable pub soughtIn : List ℕ → Header → Found

@@ -1,4 +1,4 @@
--- One frame: what it asks for, what it does, what is answered (01, from "One frame, one reply" on).
+-- One frame: what it asks for, what it does, what is answered (01, from "One frame, one reply" on; 02, 2026-01, for the short form).
 use Prim.Native.Nat.{ℕ, zero, suc, _+_, _*_, _/_}
 use mathlib.Core.Bool.{cond}
 use mathlib.Core.List.{List, [], _∷_, _++_}

@@ -1,7 +1,7 @@
 -- The checks in the groups in which the code decides them, and what it makes of a Request.
 use Prim.Native.Nat.{ℕ}
 use mathlib.Core.Bool.{cond, not, _&&_, _||_}
-use mathlib.Core.List.{List, [], _∷_}
+use mathlib.Core.List.{List, [], _∷_, _++_}
 use lib.Dec.{eqb}
 use Rattle.laws.specs.Checks.{Check, firstOf, onlyWhere}
 use Rattle.codec.specs.declared.Header.{Header}
@@ -18,18 +18,14 @@ use Rattle.table.specs.declared.Found.the-variants.{At, Nothing}
 use Rattle.table.specs.Table.{readable, writable, searched, firstNetwork}
 use Rattle.guest.specs.declared.Plan.{Plan}
 use Rattle.guest.specs.declared.Plan.the-variants.{Error, Read, Write, Join}
-use Rattle.guest.specs.Checks.{Setting, misfit, illFormed, notForUs, inShort, shortWrite, takesState, noService, notRequest, actionOrEvent, badShape, unknown, noAccess, wrongLength, wrongPiece, highNumber, soughtIn}
+use Rattle.guest.specs.Checks.{Setting, notForUs, inShort, shortWrite, takesState, frontChecks, notRequest, actionOrEvent, badShape, unknown, noAccess, wrongLength, wrongPiece, highNumber, soughtIn}
 use Rattle.guest.specs.Step.{served}
 
 -- 1 to 6: those that put no frame
 abbrev pub quietChecks : Setting → List ℕ → List Check
 quietChecks s r =
-    (misfit s r, 1)
-    ∷ (illFormed s, 2)
-    ∷ (barred (headerOf r), 3)
-    ∷ (notForUs (s .own) (headerOf r), 4)
-    ∷ (noService (headerOf r) (soughtIn (s .table) (headerOf r)), 5)
-    ∷ onlyWhere (not (inShort (headerOf r))) ((notRequest (headerOf r), 6) ∷ [])
+    frontChecks s r (headerOf r) (soughtIn (s .table) (headerOf r))
+    ++ onlyWhere (not (inShort (headerOf r))) ((notRequest (headerOf r), 6) ∷ [])
 
 -- 3 to 6, as far as the header decides them: of a short form the table decides check 5
 abbrev pub routeChecks : ℕ → Header → List Check

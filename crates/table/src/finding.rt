@@ -1,4 +1,4 @@
-// Finding an attribute by its object and ID, and its part of the store.
+// Finding an attribute, by its object and ID or as the first network record of an object, and its part of the store.
 ghost use mathlib.Core.Path.{_≡_};
 ghost use Rattle.table.specs.Table.{named as Table·named, searched, networkOf, firstNetwork, partOf};
 use crate::Attribute;
