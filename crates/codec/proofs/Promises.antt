@@ -29,6 +29,8 @@ use Rattle.codec.proofs.Images.{places-are-image, short-places-are-imag
 use Rattle.codec.proofs.Trips.{carried-is-written, written-read, read-written, read-is-carried, image-octets}
 use Rattle.codec.proofs.Unread.{same-read, cleared-ten, cleared-agrees}
 use Rattle.codec.proofs.heading.header_of.Reads as header-of
+use Rattle.codec.proofs.heading.can_of.Reads as can-of
+use Rattle.codec.proofs.heading.can_bytes.Reads as can-bytes
 use Rattle.codec.proofs.reading.payload_of.Reads as payload-of
 use Rattle.codec.proofs.reading.refusal_of.Reads as refusal-of
 use Rattle.codec.proofs.reading.subject_of.Reads as subject-of
@@ -124,6 +126,12 @@ put-short-is-written dir address service r f =
 pub header-determined : (κs : _) (args : _) (r r' : _) (s s' : _) → header-of.Post κs args r s → header-of.Post κs args r' s' → r ≡ r'
 header-determined κs args r r' s s' p q = p ∙ sym q
 
+pub can-determined : (κs : _) (args : _) (r r' : _) (s s' : _) → can-of.Post κs args r s → can-of.Post κs args r' s' → r ≡ r'
+can-determined κs args r r' s s' p q = p ∙ sym q
+
+pub can-bytes-determined : (κs : _) (args : _) (r r' : _) (s s' : _) → can-bytes.Post κs args r s → can-bytes.Post κs args r' s' → r ≡ r'
+can-bytes-determined κs args r r' s s' p q = p ∙ sym q
+
 pub payload-determined : (κs : _) (args : _) (r r' : _) (s s' : _) → payload-of.Post κs args r s → payload-of.Post κs args r' s' → r ≡ r'
 payload-determined κs args r r' s s' p q = p ∙ sym q
 
@@ -158,6 +166,12 @@ write-determined κs args r r' s s' p q = (p .0 ∙ sym (q .0), p .1 ∙ sym (q 
 
 pub header-asks-nothing : (κs : _) (args : _) → header-of.Asked κs args
 header-asks-nothing κs args = tt
+
+pub can-asks-nothing : (κs : _) (args : _) → can-of.Asked κs args
+can-asks-nothing κs args = tt
+
+pub can-bytes-asks-nothing : (κs : _) (args : _) → can-bytes.Asked κs args
+can-bytes-asks-nothing κs args = tt
 
 pub payload-asks-nothing : (κs : _) (args : _) → payload-of.Asked κs args
 payload-asks-nothing κs args = tt

@@ -1,7 +1,8 @@
 -- The fields of a record's first four bytes (01, "Frame record"; 000, figures 3.2 and 3.13 to 3.15).
-use Prim.Native.Nat.{ℕ}
-use mathlib.Core.List.{List}
+use Prim.Native.Nat.{ℕ, _+_, _*_, _/_, _%_}
+use mathlib.Core.List.{List, [], _∷_}
 use Rattle.laws.specs.Bytes.{bits, byteAt}
+use Rattle.codec.specs.declared.Can.{Can}
 use Rattle.codec.specs.declared.Header.{Header}
 
 -- a record too short to have a byte reads it as 0 (byteAt). Byte 3 is the attribute, action or event ID (3.2.2.2.1.1)
@@ -17,3 +18,11 @@ headerOf r = record {
   object = bits 4 0 (byteAt r 2);  -- and the embedded object, figure 3.12
   id = byteAt r 3;
 }
+
+-- the CAN header that the first two bytes hold (figure 3.2): of the identifier, ID10 to ID3 are byte 0 and ID2 to ID0 the service type
+unfoldable pub canOf : List ℕ → Can
+canOf r = record { identifier = byteAt r 0 * 8 + headerOf r .service; rtr = headerOf r .rtr; dlc = headerOf r .dlc }
+
+-- and the two bytes that hold it, each field cut to its bits
+unfoldable pub canBytes : Can → List ℕ
+canBytes c = (c .identifier / 8 % 256) ∷ (c .identifier % 8 * 32 + c .rtr % 2 * 16 + c .dlc % 16) ∷ []

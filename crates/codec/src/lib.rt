@@ -3,6 +3,8 @@ mod heading;
 mod reading;
 mod writing;
 
+pub use heading::can_bytes;
+pub use heading::can_of;
 pub use heading::header_of;
 pub use reading::payload_of;
 pub use reading::read;
@@ -69,6 +71,13 @@ pub struct Header {
     pub flag: u8,
     pub object: u8,
     pub id: u8,
+}
+
+// The CAN header of a record: the identifier of 11 bits, RTR and the data length code (000, figure 3.2).
+pub struct Can {
+    pub identifier: u16,
+    pub rtr: u8,
+    pub dlc: u8,
 }
 
 // What each long message says of itself: from or to whom, which service, request or response, of what.

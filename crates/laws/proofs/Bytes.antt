@@ -92,6 +92,9 @@ bytes-take (suc n) [] h i = omega arith
 bytes-take (suc n) (b ∷ l) h zero = h 0
 bytes-take (suc n) (b ∷ l) h (suc i) = bytes-take n l (λ j. h (suc j)) i
 
+pub bytes-drop : (n : ℕ) (l : List ℕ) → Bytes l → Bytes (drop n l)
+bytes-drop n l h i = rw (getD-drop n l i 0) (h (n + i))
+
 -- a byte among the first so many
 pub byte-taken : (n : ℕ) (l : List ℕ) (i : ℕ) → getD (take n l) i 0 ≡ cond (ltb i n) (getD l i 0) 0
 byte-taken n l i =

@@ -1,0 +1,6 @@
+pub mod Text
+pub mod Lines
+pub mod Frame
+pub mod Importing
+pub mod Grammar
+pub mod Exporting
