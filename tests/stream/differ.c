@@ -2,10 +2,8 @@
  * differ FRAMES [SEED]: plays the random stream into the archive and into the reference, and compares each result and every byte of every buffer. Ends when
  * that many frames have gone through sds_step. Counts what came up, and fails where something that can come up never did.
  */
-#include <stdio.h>
-#include <stdlib.h>
 #include <string.h>
-#include <time.h>
+#include "differ.h"
 #include "reference.h"
 #include "short.h"
 #include "stream.h"
@@ -111,14 +109,6 @@ static int all_came_up(void)
 
 /* ---- the comparison */
 
-static void print_bytes(const char *name, const uint8_t *bytes, size_t length)
-{
-    printf("%s", name);
-    for (size_t i = 0; i < length; i++)
-        printf(" %02X", bytes[i]);
-    printf("\n");
-}
-
 static void print_difference(uint32_t ours, uint32_t reference_says)
 {
     const struct call *c = &stream.call;
@@ -162,15 +152,9 @@ static int same_sizes(void)
 
 int main(int argc, char **argv)
 {
-    if (argc < 2 || argc > 3) {
-        fprintf(stderr, "usage: differ FRAMES [SEED]\n");
-        return 2;
-    }
-    unsigned long long frames = strtoull(argv[1], 0, 10), seed = argc == 3 ? strtoull(argv[2], 0, 10) : (unsigned long long)time(0);
-    printf("differ %llu %llu\n", frames, seed);
-    fflush(stdout);
-    stream_start(&stream, seed);
-    while (tallies[BY_ENTRY].counts[STEP] < frames)
+    struct asked asked = asked_for("differ", "FRAMES", argc, argv);
+    stream_start(&stream, asked.seed);
+    while (tallies[BY_ENTRY].counts[STEP] < asked.count)
         if (!same_call())
             return 1;
     if (!same_sizes())
@@ -179,6 +163,6 @@ int main(int argc, char **argv)
         printf("a kind with 0 above never came up\n");
         return 1;
     }
-    printf("differ: %llu frames, no difference\n", frames);
+    printf("differ: %llu frames, no difference\n", asked.count);
     return 0;
 }

@@ -2,34 +2,6 @@
 #include "short.h"
 #include "stream.h"
 
-/* ---- chance: sfc32, which needs neither 64 bits nor a division. Never two draws in one expression: C leaves their order to the compiler. */
-
-static uint32_t draw(struct stream *s)
-{
-    uint32_t *r = s->random, sum = r[0] + r[1] + r[3]++;
-    r[0] = r[1] ^ r[1] >> 9;
-    r[1] = r[2] + (r[2] << 3);
-    r[2] = (r[2] << 21 | r[2] >> 11) + sum;
-    return sum;
-}
-
-/* 0 to n-1, for n up to 65,536 */
-static uint32_t below(struct stream *s, uint32_t n)
-{
-    return (draw(s) >> 16) * n >> 16;
-}
-
-static int one_in(struct stream *s, uint32_t n)
-{
-    return below(s, n) == 0;
-}
-
-static void fill(struct stream *s, uint8_t *bytes, uint32_t count)
-{
-    for (uint32_t i = 0; i < count; i++)
-        bytes[i] = (uint8_t)(draw(s) >> 13);
-}
-
 /* ---- a scene: one device */
 
 /* a descriptor of the component model (001, figure 11), and the bytes that it describes */
@@ -356,11 +328,7 @@ static void disturb(struct stream *s)
 void stream_start(struct stream *s, uint64_t seed)
 {
     memset(s, 0, sizeof *s);
-    s->random[0] = (uint32_t)seed;
-    s->random[1] = (uint32_t)(seed >> 32);
-    s->random[3] = 1;
-    for (int i = 0; i < 16; i++)
-        draw(s);
+    chance_start(&s->chance, seed);
 }
 
 void stream_next(struct stream *s)

@@ -15,6 +15,7 @@
 #ifndef STREAM_H
 #define STREAM_H
 
+#include "chance.h"
 #include "sds.h"
 
 #ifdef STREAM_SMALL /* fits a part with 16 KiB of memory */
@@ -59,7 +60,7 @@ struct sender {
 };
 
 struct stream {
-    uint32_t random[4];
+    struct chance chance;
     struct areas areas;
     struct call call;
     struct call device; /* the scene's own address and lengths */
