@@ -9,72 +9,21 @@
  *     4, 5   the store's length (mod SDS_STORE_MOST + STORE_OVER), low byte first
  *     6..    r records of the table, then records of frames; a rest is a record of that length
  *
- * Each frame goes to the core and to the reference. Results and all buffers must be equal afterwards; each buffer ends where an unreadable page begins and
- * stands behind guard bytes, so that a byte read or written outside one shows. At the end, what came up of the short form is counted.
+ * Each frame goes to the core and to the reference. Results and all buffers must be equal afterwards (both.h). At the end, what came up of the short form
+ * is counted.
  */
-#include <stdio.h>
-#include <stdlib.h>
 #include <string.h>
-#include <sys/mman.h>
+#include "both.h"
 #include "reference.h"
 #include "sds.h"
 #include "short.h"
 
-enum { FRONT = 6, STORE_OVER = 16, GUARD = 64, GUARD_BYTE = 0x5A, ROOM = 1 << 16 };
+enum { FRONT = 6, STORE_OVER = 16 };
 enum length { RIGHT, RECORD, TABLE, STORE, WORK, OUT, MESSAGE, LENGTHS };
 enum knob { WRONG_LENGTH = 7, WORK_GARBAGE = 0x40, RIGHT_OFFSETS = 0x80 };
-enum side { CORE, REFERENCE, SIDES };
-
-static uint8_t *ends[SIDES][LENGTHS]; /* where each buffer of each side ends */
-static size_t lengths[LENGTHS];
 
 /* the fuzzer keeps an input that sets another of these, as one that reaches another line */
 static uint8_t found[NOT_LOOKED_FOR + 1] __attribute__((used, section("__libfuzzer_extra_counters")));
-
-static uint8_t *room_before_a_closed_page(void)
-{
-    uint8_t *room = mmap(0, 2 * ROOM, PROT_READ | PROT_WRITE, MAP_PRIVATE | MAP_ANONYMOUS, -1, 0);
-    if (room == MAP_FAILED || mprotect(room + ROOM, ROOM, PROT_NONE)) {
-        perror("fuzz");
-        exit(1);
-    }
-    return room + ROOM;
-}
-
-static uint8_t *lent(enum side side, enum length buffer)
-{
-    return ends[side][buffer] - lengths[buffer];
-}
-
-/* the same bytes for both sides, guard bytes in front */
-static void lend(enum length buffer, size_t length, const uint8_t *bytes, size_t count)
-{
-    lengths[buffer] = length;
-    for (enum side side = CORE; side < SIDES; side++) {
-        uint8_t *start = lent(side, buffer);
-        memset(start - GUARD, GUARD_BYTE, GUARD);
-        memset(start, 0, length);
-        memcpy(start, bytes, count < length ? count : length);
-    }
-}
-
-static void must_be(int holds, const char *what)
-{
-    if (holds)
-        return;
-    fprintf(stderr, "fuzz: %s\n", what);
-    abort();
-}
-
-static void same_everywhere(void)
-{
-    static const char *const names[LENGTHS] = {"", "record", "table", "store", "work area", "output", "message"};
-    for (enum length buffer = RECORD; buffer <= MESSAGE; buffer++)
-        must_be(!memcmp(lent(CORE, buffer) - GUARD, lent(REFERENCE, buffer) - GUARD, GUARD + lengths[buffer]), names[buffer]);
-    for (enum length buffer = RECORD; buffer <= MESSAGE; buffer++)
-        for (int i = 1; i <= GUARD; i++)
-            must_be(lent(CORE, buffer)[-i] == GUARD_BYTE, "a guard byte");
-}
 
 static void step_both(uint32_t own)
 {
@@ -121,7 +70,7 @@ static void set_offsets(struct sds_attribute *records, size_t count)
 static size_t length_of(enum length buffer, size_t right, const uint8_t *front)
 {
     size_t wrong = right + (size_t)(int8_t)front[2];
-    return (front[1] & WRONG_LENGTH) == buffer && wrong < ROOM / 2 ? wrong : right;
+    return (front[1] & WRONG_LENGTH) == buffer && wrong < BOTH_ROOM / 2 ? wrong : right;
 }
 
 static void converse(uint32_t own, const uint8_t *front, const uint8_t *frames, size_t size)
@@ -134,19 +83,11 @@ static void converse(uint32_t own, const uint8_t *front, const uint8_t *frames, 
     }
 }
 
-static void print_counts(void)
-{
-    if (!short_came_up())
-        printf("a kind with 0 above never came up\n");
-}
-
 int LLVMFuzzerInitialize(int *argc, char ***argv)
 {
+    static const char *const names[LENGTHS] = {0, "record", "table", "store", "work area", "output", "message"};
     (void)argc, (void)argv;
-    atexit(print_counts);
-    for (enum side side = CORE; side < SIDES; side++)
-        for (enum length buffer = RECORD; buffer <= MESSAGE; buffer++)
-            ends[side][buffer] = room_before_a_closed_page();
+    both_start(names, LENGTHS, short_came_up);
     return 0;
 }
 
