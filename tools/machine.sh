@@ -3,6 +3,7 @@
 #   $kit, $tools   the Rattle kit, and its clang, ld.lld and llvm-ar for this machine
 #   $cc, $cross    a C compiler for x86-64, and the prefix of its binutils
 #   $run           the command before a program for x86-64: nothing, or the kit's emulator
+#   $loader        the command behind $run and before a program of target/bin, as tools/run starts it: the kit's loader with its libraries
 #   need COMMAND PACKAGE...    installs Debian's packages where the command is missing
 #   fetch PACKAGE...           installs Debian's packages
 
@@ -32,3 +33,4 @@ else
     need "${cross}gcc" gcc-x86-64-linux-gnu libc6-dev-amd64-cross
 fi
 cc="${cross}gcc -std=c11 -D_GNU_SOURCE -O2 -Wall -Wextra -Werror -static"
+loader="$tools/lib/ld-linux-x86-64.so.2 --library-path $tools/lib"
