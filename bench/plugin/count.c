@@ -1,8 +1,10 @@
 /*
  * A plugin of qemu's user mode emulator: counts the instructions that a program executes between two marks, and writes each count as a
  * line. Arguments: begin=ADDRESS and end=ADDRESS, the marks, instructions of the program that are not counted; counts=FILE, the lines.
+ * With whole=on in place of the marks it counts the whole program and writes one line at its end.
  */
 #include <inttypes.h>
+#include <stdbool.h>
 #include <stdio.h>
 #include <stdlib.h>
 #include <string.h>
@@ -11,6 +13,7 @@
 int qemu_plugin_version = QEMU_PLUGIN_VERSION;
 
 static uint64_t begin, end, count;
+static bool whole;
 static FILE *counts;
 
 static void executed(unsigned vcpu, void *data)
@@ -30,6 +33,12 @@ static void ended(unsigned vcpu, void *data)
     (void)vcpu, (void)data;
     fprintf(counts, "%" PRIu64 "\n", count);
     fflush(counts);    /* the emulator leaves without closing files */
+}
+
+static void left(qemu_plugin_id_t id, void *data)
+{
+    (void)id;
+    ended(0, data);
 }
 
 static void translated(qemu_plugin_id_t id, struct qemu_plugin_tb *tb)
@@ -53,11 +62,15 @@ int qemu_plugin_install(qemu_plugin_id_t id, const struct qemu_info *info, int a
             end = strtoull(argv[i] + 4, NULL, 16);
         else if (!strncmp(argv[i], "counts=", 7))
             counts = fopen(argv[i] + 7, "w");
+        else if (!strcmp(argv[i], "whole=on"))
+            whole = true;
     }
-    if (!begin || !end || !counts) {
-        fputs("count: begin=, end= or counts= is missing, or that file cannot be written\n", stderr);
+    if ((whole ? begin || end : !begin || !end) || !counts) {
+        fputs("count: begin= and end=, or whole=on, or counts= is missing, or that file cannot be written\n", stderr);
         return 1;
     }
+    if (whole)
+        qemu_plugin_register_atexit_cb(id, left, NULL);
     qemu_plugin_register_vcpu_tb_trans_cb(id, translated);
     return 0;
 }

@@ -19,6 +19,7 @@ enum qemu_plugin_cb_flags { QEMU_PLUGIN_CB_NO_REGS };
 typedef uint64_t qemu_plugin_id_t;
 typedef void qemu_plugin_tb_trans_cb(qemu_plugin_id_t id, struct qemu_plugin_tb *tb);
 typedef void qemu_plugin_vcpu_udata_cb(unsigned vcpu, void *data);
+typedef void qemu_plugin_udata_cb(qemu_plugin_id_t id, void *data);
 
 /* by the plugin */
 extern int qemu_plugin_version;
@@ -31,5 +32,6 @@ struct qemu_plugin_insn *qemu_plugin_tb_get_insn(const struct qemu_plugin_tb *tb
 uint64_t qemu_plugin_insn_vaddr(const struct qemu_plugin_insn *insn);
 void qemu_plugin_register_vcpu_insn_exec_cb(struct qemu_plugin_insn *insn, qemu_plugin_vcpu_udata_cb *executed,
                                             enum qemu_plugin_cb_flags flags, void *data);
+void qemu_plugin_register_atexit_cb(qemu_plugin_id_t id, qemu_plugin_udata_cb *left, void *data);
 
 #endif
