@@ -9,7 +9,7 @@ use lib.Dec.{eqb, ltb, leb}
 use borrow.Author.Tests.{eqb-true, ltb-true, leb-true, lt-ltb, le-ltb, not-false}
 use Rattle.bytes.specs.Bytes.{indexOf}
 use Rattle.laws.specs.Checks.{firstOf, holdsAt}
-use Rattle.laws.proofs.Bytes.{length-padded}
+use Rattle.laws.proofs.Bytes.{length-padded, drop-zeros}
 use Rattle.laws.proofs.Checks.{none-holds}
 use Rattle.laws.proofs.Tests.{split, halves}
 use Rattle.codec.specs.declared.Can.{Can}
@@ -19,7 +19,7 @@ use Rattle.candump.specs.declared.Imported.{Imported}
 use Rattle.candump.specs.Text.{mark, space, hexValue, isA, allAre, upTo, behind}
 use Rattle.candump.specs.Frame.{can, recordOf}
 use Rattle.candump.specs.Importing.{mostLine, timeOf, interfaceOf, frameOf, isTime, isInterface, isIdentified, isRemote, isBytes, bytesIn, remoteDlc, recordIn, notImported, imported, identifierIn, dataChecks, frameChecks, importChecks, dataImported, frameImported, importOf}
-use Rattle.candump.proofs.Stores.{bytes-count, drop-zeros}
+use Rattle.candump.proofs.Stores.{bytes-count}
 
 pub record Whole (d : List ℕ) : Type 0 where
   pub even : length d % 2 ≡ 0

@@ -26,11 +26,6 @@ stored-next f p i v e h =
 kept-length : (f p places : List ℕ) (i : ℕ) → length f ≡ i → i ≤ length p → places ≡ f ++ drop i p → length places ≡ length p
 kept-length f p places i n h e = ap length e ∙ length-append f (drop i p) ∙ rw (length-drop i p) (omega arith)
 
-pub drop-zeros : (n m : ℕ) → drop {A = ℕ} n (replicate m 0) ≡ replicate (m - n) 0
-drop-zeros zero m = let e : m - 0 ≡ m = omega arith in rw e
-drop-zeros (suc n) zero = let e : 0 - suc n ≡ 0 = omega arith in rw e
-drop-zeros (suc n) (suc m) = let e : suc m - suc n ≡ m - n = omega arith in rw e (drop-zeros n m)
-
 -- a byte among bytes of one kind
 pub all-at : (k : Kind) (l : List ℕ) (i : ℕ) → allAre k l ≡ true → i < length l → isA k (getD l i 0) ≡ true
 all-at k [] i e h = absurd (omega arith)

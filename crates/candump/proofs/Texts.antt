@@ -8,6 +8,7 @@ use lib.ListN.{length, take, drop, replicate, length-append, length-take, length
 use lib.Seq.{take-all, drop-drop}
 use lib.Dec.{eqb, ltb}
 use borrow.Author.Tests.{eq-eqb, ne-eqb, lt-ltb, le-ltb}
+use Rattle.laws.proofs.Bytes.{drop-zeros}
 use Rattle.laws.proofs.Tests.{split}
 use Rattle.codec.specs.declared.Can.{Can}
 use Rattle.codec.specs.Names.{mostDlc}
@@ -15,7 +16,7 @@ use Rattle.codec.specs.Fields.{canOf}
 use Rattle.candump.specs.Text.{mark}
 use Rattle.candump.specs.Frame.{identifierDigits, dataText, text, hexOf}
 use Rattle.candump.specs.Exporting.{notExported, exportOf, lineOf, front}
-use Rattle.candump.proofs.Stores.{digits-count, drop-zeros}
+use Rattle.candump.proofs.Stores.{digits-count}
 
 pub data-most : (c : Can) (b : List ℕ) → c .dlc ≤ mostDlc → length (dataText c b) ≤ 16
 unfolding dataText

@@ -41,6 +41,11 @@ take-zeros zero m h = refl
 take-zeros (suc n) zero h = absurd (omega arith)
 take-zeros (suc n) (suc m) h = ap (λ (l : List ℕ). 0 ∷ l) (take-zeros n m (omega arith))
 
+pub drop-zeros : (n m : ℕ) → drop {A = ℕ} n (replicate m 0) ≡ replicate (m - n) 0
+drop-zeros zero m = let e : m - 0 ≡ m = omega arith in rw e
+drop-zeros (suc n) zero = let e : 0 - suc n ≡ 0 = omega arith in rw e
+drop-zeros (suc n) (suc m) = let e : suc m - suc n ≡ m - n = omega arith in rw e (drop-zeros n m)
+
 -- a list that holds zeros from k on is its first k elements, padded
 pub padded-take : (k most : ℕ) (s : List ℕ) → k ≤ most → most ≤ length s → zeros (drop k s) ≡ true → padded most (take k s) ≡ take most s
 padded-take k most s h l z =
