@@ -2,7 +2,7 @@
 #ifndef COUNTING_H
 #define COUNTING_H
 
-#include "sds.h"
+#include "sds_host.h"
 
 enum side { EMPTY, CORE, PLAIN, SIDES };
 
@@ -13,6 +13,7 @@ struct lent {
     uint8_t out[SDS_OUT];
     uint8_t message[SDS_MESSAGE];
     uint8_t record[SDS_RECORD];
+    uint8_t line[SDS_LINE_ROOM];
 };
 
 /* What a row lends, and the buffers that are lent: each call finds `before` in `lent`, at the same addresses. */
@@ -41,5 +42,6 @@ void demand(int holds, const char *function, const char *name);
 void step_rows(void);
 void codec_rows(void);
 void table_rows(void);
+void line_rows(void);
 
 #endif

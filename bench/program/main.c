@@ -24,5 +24,6 @@ int main(int argc, char **argv)
     step_rows();
     table_rows();
     codec_rows();
+    line_rows();
     return 0;
 }

@@ -1,21 +1,21 @@
 -- A line is imported exactly when it is one of the grammar: each part by itself, and then the line.
 use Prim.Native.Nat.{ℕ, suc, _+_, _-_, _*_, _/_, _%_, _<_, _≤_}
 use mathlib.Core.Path.{_≡_, refl, sym, ap, _∙_, subst}
-use mathlib.Core.Bool.{Bool, true, false, cond, not, _&&_, _||_}
+use mathlib.Core.Bool.{true, false, _&&_, _||_}
 use mathlib.Core.List.{List, [], _∷_, _++_, append-assoc}
 use native.Mathlib.Omega.{arith}
-use lib.ListN.{length, getD, take, drop, length-append}
+use lib.ListN.{length, getD, take, length-append}
 use Rattle.bytes.specs.Bytes.{indexOf}
 use lib.Seq.{take-at, getD-at, take-all, take-suc, length-take-le}
 use lib.Dec.{eqb, ltb, leb}
-use borrow.Author.Tests.{eqb-true, ltb-true, ltb-false, leb-true, eq-eqb, ne-eqb, lt-ltb, le-ltb, le-leb, not-false}
+use borrow.Author.Tests.{eqb-true, ltb-true, ltb-false, leb-true, eq-eqb, ne-eqb, lt-ltb, le-leb, not-false}
 use Rattle.laws.specs.Checks.{firstOf, holdsAt}
 use Rattle.laws.proofs.Tests.{split, clash, halves}
 use Rattle.laws.proofs.Checks.{none-holds}
 use Rattle.candump.specs.declared.Imported.{Imported}
 use Rattle.candump.specs.declared.Kind.{Kind}
 use Rattle.candump.specs.declared.Kind.the-variants.{Decimal, Visible, Hex}
-use Rattle.candump.specs.Text.{opening, point, closing, space, mark, remote, zeroDigit, within, hexValue, isA, allAre, upTo, behind}
+use Rattle.candump.specs.Text.{opening, point, closing, space, mark, remote, within, hexValue, isA, allAre, upTo, behind}
 use Rattle.candump.specs.Frame.{can, recordOf}
 use Rattle.candump.specs.Importing.{mostLine, mostInterface, timeOf, interfaceOf, frameOf, isSeconds, isMicros, isTime, isInterface, identifierIn, isIdentified, isRemote, isBytes, bytesIn, remoteDlc, recordIn, importChecks, imported, frameImported, importOf}
 use Rattle.candump.specs.Grammar.{All, Spells, Says, Line}
@@ -118,7 +118,7 @@ digit-visible (c ∷ l) e =
     let w = from-within 48 57 c (h .0) in
     simp (inside 33 126 c (omega arith) (omega arith), digit-visible l (h .1))
 
-abbrev time : List ℕ → List ℕ → List ℕ
+abbrev pub time : List ℕ → List ℕ → List ℕ
 time s m = opening ∷ s ++ point ∷ m ++ closing ∷ []
 
 module _ (s m : List ℕ) (ds : allAre Decimal s ≡ true) (dm : allAre Decimal m ≡ true) where
@@ -133,7 +133,7 @@ module _ (s m : List ℕ) (ds : allAre Decimal s ≡ true) (dm : allAre Decimal 
   micros-pass n =
       simp (eq-eqb (length (m ++ closing ∷ [])) 7 (length-append m (closing ∷ []) ∙ omega arith), getD-at m closing [] 0 6 n, take-at m (closing ∷ []) 6 n, dm)
 
-  time-passes : 0 < length s → length m ≡ 6 → isTime (time s m) ≡ true
+  pub time-passes : 0 < length s → length m ≡ 6 → isTime (time s m) ≡ true
   unfolding isTime isSeconds isA
   time-passes h n =
       let inner : s ++ point ∷ m ++ closing ∷ [] ≡ s ++ point ∷ (m ++ closing ∷ []) = append-assoc s (point ∷ m) (closing ∷ []) in
@@ -141,7 +141,7 @@ module _ (s m : List ℕ) (ds : allAre Decimal s ≡ true) (dm : allAre Decimal 
       simp (inner, cut-before Decimal point refl s rest ds, cut-behind Decimal point refl s rest ds, lt-ltb 0 (length s) h, ds, micros-pass n)
 
 -- what passes the test is such a time
-record Timed (t : List ℕ) : Type 0 where
+pub record Timed (t : List ℕ) : Type 0 where
   pub seconds : List ℕ
   pub micros : List ℕ
   pub is : t ≡ time seconds micros
@@ -150,7 +150,7 @@ record Timed (t : List ℕ) : Type 0 where
   pub six-micros : length micros ≡ 6
   pub decimal-micros : All Decimal micros
 
-timed : (t : List ℕ) → isTime t ≡ true → Timed t
+pub timed : (t : List ℕ) → isTime t ≡ true → Timed t
 unfolding isTime isSeconds isMicros
 timed [] e = clash e refl
 timed (c ∷ t) e =
@@ -182,12 +182,12 @@ module _ (h m n : ℕ) (d : List ℕ) (x : allAre Hex (h ∷ m ∷ n ∷ []) ≡
   unfolding isA hexValue
   mark-third = cut Hex mark refl (h ∷ m ∷ n ∷ []) d x
 
-  frame-passes : hexValue h * 256 + hexValue m * 16 + hexValue n ≤ 2047 → isIdentified (h ∷ m ∷ n ∷ mark ∷ d) ≡ true
+  pub frame-passes : hexValue h * 256 + hexValue m * 16 + hexValue n ≤ 2047 → isIdentified (h ∷ m ∷ n ∷ mark ∷ d) ≡ true
   unfolding isIdentified identifierIn
   frame-passes b =
       simp (mark-third, lt-ltb 3 (length (h ∷ m ∷ n ∷ mark ∷ d)) (omega arith), x, le-leb (hexValue h * 256 + hexValue m * 16 + hexValue n) 2047 b)
 
-three-of : (f : List ℕ) → 3 < length f → take 3 f ≡ getD f 0 0 ∷ getD f 1 0 ∷ getD f 2 0 ∷ []
+pub three-of : (f : List ℕ) → 3 < length f → take 3 f ≡ getD f 0 0 ∷ getD f 1 0 ∷ getD f 2 0 ∷ []
 three-of [] h = absurd (omega arith)
 three-of (a ∷ []) h = absurd (omega arith)
 three-of (a ∷ b ∷ []) h = absurd (omega arith)

@@ -4,5 +4,6 @@ pub mod Stores
 pub mod Parts
 pub mod Texts
 pub mod Grammar
+pub mod Places
 pub mod Trips
 pub mod Promises

@@ -1,24 +1,22 @@
 -- What the tests of a line's parts let through, and what is imported of them.
-use Prim.Native.Nat.{ℕ, suc, _+_, _-_, _*_, _/_, _%_, _<_, _≤_}
+use Prim.Native.Nat.{ℕ, suc, _-_, _/_, _%_, _<_, _≤_}
 use mathlib.Core.Path.{_≡_, refl, sym, ap, _∙_}
-use mathlib.Core.Bool.{Bool, true, false, cond, not, _&&_, _||_}
-use mathlib.Core.List.{List, [], _∷_, _++_, append-nil}
+use mathlib.Core.Bool.{true, false, _&&_, _||_}
+use mathlib.Core.List.{List, []}
 use native.Mathlib.Omega.{arith}
-use lib.ListN.{length, getD, take, drop, replicate}
+use lib.ListN.{length, drop}
 use lib.Dec.{eqb, ltb, leb}
 use borrow.Author.Tests.{eqb-true, ltb-true, leb-true, lt-ltb, le-ltb, not-false}
 use Rattle.bytes.specs.Bytes.{indexOf}
 use Rattle.laws.specs.Checks.{firstOf, holdsAt}
-use Rattle.laws.proofs.Bytes.{length-padded, drop-zeros}
+use Rattle.laws.proofs.Bytes.{length-padded}
 use Rattle.laws.proofs.Checks.{none-holds}
 use Rattle.laws.proofs.Tests.{split, halves}
-use Rattle.codec.specs.declared.Can.{Can}
 use Rattle.codec.specs.Fields.{canBytes}
-use Rattle.candump.specs.declared.Kind.the-variants.{Decimal, Visible, Hex}
-use Rattle.candump.specs.declared.Imported.{Imported}
-use Rattle.candump.specs.Text.{mark, space, hexValue, isA, allAre, upTo, behind}
+use Rattle.candump.specs.declared.Kind.the-variants.{Hex}
+use Rattle.candump.specs.Text.{mark, allAre, upTo, behind}
 use Rattle.candump.specs.Frame.{can, recordOf}
-use Rattle.candump.specs.Importing.{mostLine, timeOf, interfaceOf, frameOf, isTime, isInterface, isIdentified, isRemote, isBytes, bytesIn, remoteDlc, recordIn, notImported, imported, identifierIn, dataChecks, frameChecks, importChecks, dataImported, frameImported, importOf}
+use Rattle.candump.specs.Importing.{mostLine, timeOf, interfaceOf, frameOf, isTime, isInterface, isIdentified, isRemote, isBytes, bytesIn, remoteDlc, recordIn, notImported, imported, identifierIn, importChecks, dataImported, frameImported, importOf}
 use Rattle.candump.proofs.Stores.{bytes-count}
 
 pub record Whole (d : List ℕ) : Type 0 where
@@ -51,13 +49,6 @@ identified f e =
       hex = b .1;
       most = leb-true (identifierIn f) 2047 (a .1);
     }
-
--- a record as it is made: the two bytes of the CAN header, then what was put over eight zeros
-pub record-made : (c : Can) (d h e : List ℕ) → h ≡ canBytes c → e ≡ bytesIn d ++ drop (length d / 2) (replicate 8 0)
-    → getD h 0 0 ∷ getD h 1 0 ∷ (e ++ []) ≡ recordOf c (bytesIn d)
-unfolding recordOf canBytes
-record-made c d h e p q =
-    rw (p, append-nil e, q, drop-zeros (length d / 2) 8, bytes-count d)
 
 -- ---- what is imported of what stands behind the "#", by what was found of it
 

@@ -1,30 +1,29 @@
 -- WHAT THE CRATE PROMISES of lines and records: which lines are imported and to what, what is refused, the way there and back, and lines of a text.
 use Prim.Native.Nat.{ℕ, suc, _+_, _-_, _<_, _≤_}
 use mathlib.Core.Path.{_≡_, refl, sym, ap, _∙_}
-use mathlib.Core.Bool.{Bool, true, false, cond, not}
+use mathlib.Core.Bool.{false}
 use mathlib.Core.List.{List, [], _∷_, _++_}
 use mathlib.Core.Logic.{_↔_}
 use native.Mathlib.Omega.{arith}
-use lib.ListN.{length, take, replicate}
+use denote.Ref.{now}
+use lib.ListN.{length, take, drop, replicate}
 use lib.Seq.{take-at, take-all, length-take-le}
 use lib.Dec.{eqb, ltb}
-use borrow.Author.Tests.{eqb-true, eqb-false, eq-eqb, ltb-true, ltb-false, le-ltb}
+use borrow.Author.Tests.{eqb-true, eqb-false, eq-eqb, ne-eqb, ltb-true, ltb-false, le-ltb}
 use Rattle.bytes.specs.Bytes.{indexOf, indexAfter}
-use Rattle.laws.specs.Bytes.{Bytes, padded}
-use Rattle.laws.specs.Checks.{Check, firstOf, holdsAt, FirstAt}
+use Rattle.laws.specs.Bytes.{Bytes}
+use Rattle.laws.specs.Checks.{firstOf, holdsAt, FirstAt}
 use Rattle.laws.proofs.Tests.{split}
 use Rattle.laws.proofs.Bytes.{length-padded}
-use Rattle.laws.proofs.Checks.{given-exactly, none-holds}
+use Rattle.laws.proofs.Checks.{given-exactly, none-holds, first-most}
 use Rattle.codec.specs.Names.{frameSize, mostDlc}
 use Rattle.codec.specs.Fields.{canOf}
-use Rattle.candump.specs.declared.Imported.{Imported}
-use Rattle.candump.specs.declared.Exported.{Exported}
 use Rattle.candump.specs.Text.{lineFeed, upTo, behind}
 use Rattle.candump.specs.Lines.{inFront, linesOf}
 use Rattle.candump.specs.Frame.{unusedCleared}
 use Rattle.candump.specs.Importing.{mostLine, importChecks, notImported, imported, importOf}
 use Rattle.candump.specs.Grammar.{Line}
-use Rattle.candump.specs.Exporting.{lineRoom, lineOf, exportChecks, notExported, exported, exportOf}
+use Rattle.candump.specs.Exporting.{lineRoom, lineOf, exportChecks, notExported, exported, exportOf, putChecks, putOf, putLeft}
 use Rattle.candump.proofs.Parts.{too-long, record-size}
 use Rattle.candump.proofs.Texts.{line-most}
 use Rattle.candump.proofs.Grammar.{line-imported, imported-line}
@@ -32,6 +31,7 @@ use Rattle.candump.proofs.Trips.{record-line}
 use Rattle.candump.proofs.text.place_of.Reads as place-of
 use Rattle.candump.proofs.importing.import_line.Reads as import-line
 use Rattle.candump.proofs.exporting.export_record.Reads as export-record
+use Rattle.candump.proofs.exporting.put_line.Reads as put-line
 
 -- ---- which lines are imported, and to what
 
@@ -108,6 +108,36 @@ export-sizes r =
     rw (export-leaves r z) (most, length-padded lineRoom (lineOf r) most))
     (λ f. rw (unexported-empty r (eqb-false (exportOf r .number) 0 f)) (omega arith, refl))
 
+-- ---- into a buffer: refused exactly, with room for each line that is put, and unchanged on a refusal
+
+pub put-refuses-exactly : (r b : List ℕ) (n : ℕ) → 0 < n → (putOf r b .number ≡ n) ↔ FirstAt (putChecks r b) n
+unfolding putOf
+put-refuses-exactly r b n h = given-exactly (putChecks r b) refl n h
+
+pub refused-buffer-unchanged : (r b : List ℕ) → (putOf r b .number ≡ 0 → ⊥) → putLeft r b ≡ b
+unfolding putOf putLeft
+refused-buffer-unchanged r b h = simp (ne-eqb (firstOf (putChecks r b)) 0 h)
+
+pub put-small : (r b : List ℕ) → (putOf r b .number ≤ 3) × (putOf r b .len ≤ lineRoom)
+unfolding putOf holdsAt
+put-small r b =
+    let n = firstOf (putChecks r b) in
+    split (eqb n 0)
+    (λ t.
+    let passed = none-holds (putChecks r b) refl .0 (eqb-true n 0 t) in
+    simp t (first-most 3 (putChecks r b) refl, line-most r (ltb-false mostDlc (canOf r .dlc) (passed 2))))
+    (λ f. simp f (first-most 3 (putChecks r b) refl, omega arith))
+
+-- what is put where there is room: the line, and nothing behind it alters
+pub put-leaves : (r b : List ℕ) → length r ≡ frameSize → canOf r .dlc ≤ mostDlc → lineRoom ≤ length b
+    → (putOf r b .number ≡ 0) × (putOf r b .len ≡ length (lineOf r)) × (putLeft r b ≡ lineOf r ++ drop (length (lineOf r)) b)
+unfolding putOf putLeft
+put-leaves r b ten few room =
+    let a = eq-eqb (length r) frameSize ten in
+    let c = le-ltb mostDlc (canOf r .dlc) few in
+    let d = le-ltb (length b) lineRoom room in
+    (simp (a, c, d), simp (a, c, d), simp (a, c, d))
+
 -- THE ROUND TRIP: importing an export gives the record with its unused bytes (all eight under RTR) cleared
 module _ (r : List ℕ) (b : Bytes r) (ten : length r ≡ frameSize) (few : canOf r .dlc ≤ mostDlc) where
   pub line-back : importOf (lineOf r) ≡ imported 0 (unusedCleared r)
@@ -152,6 +182,10 @@ import-determined κs args r r' s s' p q = p ∙ sym q
 pub export-determined : (κs : _) (args : _) (r r' : _) (s s' : _) → export-record.Post κs args r s → export-record.Post κs args r' s' → r ≡ r'
 export-determined κs args r r' s s' p q = p ∙ sym q
 
+pub put-determined : (κs : _) (args : _) (r r' : _) (s s' : _) → put-line.Post κs args r s → put-line.Post κs args r' s'
+    → (r ≡ r') × (now (s .1 .0) ≡ now (s' .1 .0))
+put-determined κs args r r' s s' p q = (p .0 ∙ sym (q .0), p .1 ∙ sym (q .1))
+
 -- ---- nothing is asked of a caller
 
 pub place-asks-nothing : (κs : _) (args : _) → place-of.Asked κs args
@@ -162,3 +196,6 @@ import-asks-nothing κs args = tt
 
 pub export-asks-nothing : (κs : _) (args : _) → export-record.Asked κs args
 export-asks-nothing κs args = tt
+
+pub put-asks-nothing : (κs : _) (args : _) → put-line.Asked κs args
+put-asks-nothing κs args = tt

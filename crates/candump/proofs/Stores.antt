@@ -1,23 +1,25 @@
 -- Digits and bytes as the loops store them.
 use Prim.Native.Nat.{ℕ, zero, suc, _+_, _-_, _*_, _/_, _%_, _<_, _≤_}
 use mathlib.Core.Path.{_≡_, refl, sym, ap, _∙_}
-use mathlib.Core.Bool.{true, _&&_}
-use mathlib.Core.List.{List, [], _∷_, _++_, append-assoc}
+use mathlib.Core.Bool.{true}
+use mathlib.Core.List.{List, [], _∷_, _++_}
 use native.Mathlib.Omega.{arith}
 use native.Mathlib.Numerals.{add-one}
 use lib.ListN.{length, getD, set, take, drop, replicate, length-append, length-drop}
-use lib.Seq.{take-nil, take-suc, take-all, drop-cons, set-at, append-snoc, length-take-le}
-use lib.Dec.{ltb}
-use borrow.Author.Tests.{ltb-true}
+use lib.Seq.{take-suc, take-all, drop-cons, set-at, append-snoc, length-take-le}
+use borrow.Author.Tests.{ltb-true, lt-ltb}
+use Rattle.laws.specs.Bytes.{padded}
+use Rattle.laws.proofs.Bytes.{drop-zeros}
 use Rattle.laws.proofs.Tests.{halves}
 use Rattle.candump.specs.declared.Kind.{Kind}
 use Rattle.candump.specs.declared.Kind.the-variants.{Hex}
 use Rattle.candump.specs.Text.{hexValue, hexDigit, isA, allAre}
 use Rattle.candump.specs.Frame.{hexOf}
 use Rattle.candump.specs.Importing.{bytesIn}
+use Rattle.candump.proofs.Cuts.{all-both}
 
 -- the next element of a list that is stored from the front
-pub stored-next : (f p : List ℕ) (i v : ℕ) → length f ≡ i → i < length p → set (f ++ drop i p) i v ≡ f ++ v ∷ [] ++ drop (i + 1) p
+stored-next : (f p : List ℕ) (i v : ℕ) → length f ≡ i → i < length p → set (f ++ drop i p) i v ≡ f ++ v ∷ [] ++ drop (i + 1) p
 stored-next f p i v e h =
     ap (λ (t : List ℕ). set (f ++ t) i v) (drop-cons p i 0 h)
     ∙ set-at f (getD p i 0) (drop (suc i) p) v i e
@@ -27,7 +29,7 @@ kept-length : (f p places : List ℕ) (i : ℕ) → length f ≡ i → i ≤ len
 kept-length f p places i n h e = ap length e ∙ length-append f (drop i p) ∙ rw (length-drop i p) (omega arith)
 
 -- a byte among bytes of one kind
-pub all-at : (k : Kind) (l : List ℕ) (i : ℕ) → allAre k l ≡ true → i < length l → isA k (getD l i 0) ≡ true
+all-at : (k : Kind) (l : List ℕ) (i : ℕ) → allAre k l ≡ true → i < length l → isA k (getD l i 0) ≡ true
 all-at k [] i e h = absurd (omega arith)
 all-at k (c ∷ l) zero e h = halves (isA k c) e .0
 all-at k (c ∷ l) (suc i) e h = all-at k l i (halves (isA k c) e .1) (omega arith)
@@ -50,15 +52,6 @@ bytes-append [] b e = refl
 bytes-append (h ∷ []) b e = absurd (omega arith)
 bytes-append (h ∷ l ∷ a) b e = ap (λ (t : List ℕ). (hexValue h * 16 + hexValue l) ∷ t) (bytes-append a b (omega arith))
 
--- a digit that is left over says nothing
-pub bytes-whole : (d : List ℕ) (i : ℕ) → i ≡ length d / 2 → bytesIn (take (2 * i) d) ≡ bytesIn d
-unfolding bytesIn
-bytes-whole [] i e = ap bytesIn (take-nil (2 * i))
-bytes-whole (h ∷ []) i e = let n : 2 * i ≡ 0 = omega arith in rw n
-bytes-whole (h ∷ l ∷ d) i e =
-    let n : 2 * i ≡ suc (suc (2 * (length d / 2))) = omega arith in
-    rw n (ap (λ (t : List ℕ). (hexValue h * 16 + hexValue l) ∷ t) (bytes-whole d (length d / 2) refl))
-
 two-more : (d : List ℕ) (i : ℕ) → 2 * i + 1 < length d
     → take (2 * (i + 1)) d ≡ take (2 * i) d ++ getD d (2 * i) 0 ∷ getD d (2 * i + 1) 0 ∷ []
 two-more d i h =
@@ -80,11 +73,19 @@ bytes-stored d p places i v h k e f =
     ap bytesIn (two-more d i h) ∙ bytes-append front (getD d (2 * i) 0 ∷ getD d (2 * i + 1) 0 ∷ []) (omega arith) ∙ rw f in
     rw (e, t) (stored-next (bytesIn front) p i v n k)
 
-pub bytes-kept : (d p places : List ℕ) (i : ℕ) → i ≤ length d / 2 → length d ≤ 2 * length p → places ≡ bytesIn (take (2 * i) d) ++ drop i p
-    → length places ≡ length p
-bytes-kept d p places i h k e =
-    let m : length (take (2 * i) d) ≡ 2 * i = length-take-le (2 * i) d (omega arith) in
-    kept-length (bytesIn (take (2 * i) d)) p places i (omega (arith, bytes-count (take (2 * i) d))) (omega arith) e
+-- as the loop reads them: each pair is of hex digits, and what is stored so far is padded with zeros
+pub pairs-hex : (d : List ℕ) (i : ℕ) → 2 * i + 1 < length d → allAre Hex (take (2 * i) d) ≡ true
+    → hexValue (getD d (2 * i) 0) < 16 → hexValue (getD d (2 * i + 1) 0) < 16 → allAre Hex (take (2 * (i + 1)) d) ≡ true
+unfolding isA
+pairs-hex d i h a p q =
+    rw (two-more d i h)
+    (all-both Hex (take (2 * i) d) (getD d (2 * i) 0 ∷ getD d (2 * i + 1) 0 ∷ []) a (simp (lt-ltb _ 16 p, lt-ltb _ 16 q)))
+
+pub pairs-padded : (d : List ℕ) (i : ℕ) → 2 * i ≡ length d → bytesIn (take (2 * i) d) ++ drop i (replicate 8 0) ≡ padded 8 (bytesIn d)
+pairs-padded d i e =
+    let whole = take-all (2 * i) d (omega arith) in
+    let n : length (bytesIn d) ≡ i = bytes-count d ∙ omega arith in
+    rw (whole, drop-zeros i 8, n)
 
 -- ---- digits of bytes
 

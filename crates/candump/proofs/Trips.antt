@@ -1,10 +1,9 @@
 -- A record's line is one of the grammar, and says the record with its unused bytes cleared.
 use Prim.Native.Nat.{ℕ, suc, _+_, _-_, _*_, _/_, _%_, _<_, _≤_}
-use mathlib.Core.Path.{_≡_, refl, sym, ap, _∙_, subst}
-use mathlib.Core.Bool.{true, false, cond}
-use mathlib.Core.List.{List, [], _∷_, _++_, append-assoc}
+use mathlib.Core.Path.{_≡_, refl, sym, subst}
+use mathlib.Core.List.{List, [], _∷_, append-assoc}
 use native.Mathlib.Omega.{arith}
-use lib.ListN.{length, getD, take, drop, replicate, length-append, length-take, length-drop}
+use lib.ListN.{length, take, drop, replicate, length-take, length-drop}
 use lib.Seq.{take-add, length-take-le}
 use lib.Dec.{eqb}
 use borrow.Author.Tests.{eqb-true, eqb-false}
@@ -12,22 +11,21 @@ use Rattle.laws.specs.Bytes.{Bytes, padded}
 use Rattle.laws.proofs.Bytes.{bytes-take, bytes-drop}
 use Rattle.laws.proofs.Tests.{split}
 use Rattle.codec.specs.declared.Can.{Can}
-use Rattle.codec.specs.Names.{mostDlc}
 use Rattle.codec.specs.Fields.{headerOf, canOf, canBytes}
 use Rattle.codec.specs.Writing.{clearedOf}
 use Rattle.codec.proofs.Headers.{ranged}
 use Rattle.codec.proofs.Cans.{can-back}
-use Rattle.candump.specs.declared.Kind.the-variants.{Decimal, Visible, Hex}
-use Rattle.candump.specs.Text.{zeroDigit, hexValue, hexDigit, isA, allAre}
+use Rattle.candump.specs.declared.Kind.the-variants.{Decimal, Visible}
+use Rattle.candump.specs.Text.{zeroDigit, hexValue, hexDigit, isA}
 use Rattle.candump.specs.Frame.{can, hexOf, identifierDigits, dataText, text, recordOf, unusedCleared}
 use Rattle.candump.specs.Grammar.{Spells, Says, Line}
 use Rattle.candump.specs.Grammar.All.{none, more}
 use Rattle.candump.specs.Grammar.Spells.{end, pair}
 use Rattle.candump.specs.Grammar.Says.{whole, sized}
-use Rattle.candump.specs.Exporting.{lineOf, front}
+use Rattle.candump.specs.Exporting.{lineOf}
 use Rattle.candump.proofs.Digits.{digit-value, digit-is-hex}
 use Rattle.candump.proofs.Grammar.{are-all}
-use Rattle.candump.proofs.Texts.{text-length, data-most}
+use Rattle.candump.proofs.Texts.{data-most}
 
 -- a byte's two digits say the byte, and so do those of bytes
 byte-back : (b : ℕ) → b < 256 → hexValue (hexDigit (b / 16)) * 16 + hexValue (hexDigit (b % 16)) ≡ b

@@ -9,6 +9,7 @@ use Rattle.laws.specs.Checks.{Check, firstOf}
 use Rattle.codec.specs.Names.{frameSize, mostDlc}
 use Rattle.codec.specs.Fields.{canOf}
 use Rattle.candump.specs.declared.Exported.{Exported}
+use Rattle.candump.specs.declared.Put.{Put}
 use Rattle.candump.specs.Text.{opening, point, closing, space, zeroDigit}
 use Rattle.candump.specs.Frame.{text}
 
@@ -39,3 +40,14 @@ exported n l = cond (eqb n 0) (record { number = n; len = length l; line = padde
 
 unfoldable pub exportOf : List ℕ → Exported
 exportOf r = exported (firstOf (exportChecks r)) (lineOf r)
+
+-- and into a buffer: one without room for the longest line is refused with 3, last
+abbrev pub putChecks : List ℕ → List ℕ → List Check
+putChecks r b = exportChecks r ++ (ltb (length b) lineRoom, 3) ∷ []
+
+unfoldable pub putOf : List ℕ → List ℕ → Put
+putOf r b = record { number = firstOf (putChecks r b); len = cond (eqb (firstOf (putChecks r b)) 0) (length (lineOf r)) 0 }
+
+-- the buffer afterwards: the line at its front; all of it as it was on a refusal
+unfoldable pub putLeft : List ℕ → List ℕ → List ℕ
+putLeft r b = cond (eqb (firstOf (putChecks r b)) 0) (lineOf r ++ drop (length (lineOf r)) b) b

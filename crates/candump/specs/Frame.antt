@@ -2,7 +2,7 @@
 use Prim.Native.Nat.{ℕ, _+_, _/_, _%_}
 use mathlib.Core.Bool.{cond}
 use mathlib.Core.List.{List, [], _∷_, _++_}
-use lib.ListN.{take, drop}
+use lib.ListN.{take}
 use lib.Dec.{eqb}
 use Rattle.laws.specs.Bytes.{padded}
 use Rattle.codec.specs.declared.Can.{Can}

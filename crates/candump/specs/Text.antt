@@ -45,6 +45,10 @@ hexValue c = cond (within 48 57 c) (c - 48) (cond (within 65 70 c) (c - 55) (con
 unfoldable pub hexDigit : ℕ → ℕ
 hexDigit v = cond (ltb v 10) (48 + v) (55 + v)
 
+-- the digits of all values
+abbrev pub capitals : List ℕ
+capitals = 48 ∷ 49 ∷ 50 ∷ 51 ∷ 52 ∷ 53 ∷ 54 ∷ 55 ∷ 56 ∷ 57 ∷ 65 ∷ 66 ∷ 67 ∷ 68 ∷ 69 ∷ 70 ∷ []
+
 -- the kinds of bytes: "decimal digits", "bytes of 21 to 7E hex", hex digits
 unfoldable pub isA : Kind → ℕ → Bool
 isA Decimal c = within 48 57 c

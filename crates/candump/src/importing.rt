@@ -1,16 +1,16 @@
 // A line of a log to the record of its frame.
 ghost use mathlib.Core.Path.{_≡_};
-ghost use mathlib.Core.Bool.{true};
-ghost use mathlib.Core.List.{[], _++_};
-ghost use Prim.Native.Nat.{_*_, _/_, _≤_};
-ghost use lib.ListN.{length, drop};
-ghost use Rattle.codec.specs.Names.{frameSize, mostDlc};
-ghost use Rattle.candump.specs.Text.{isA, allAre};
-ghost use Rattle.candump.specs.Frame.{recordOf};
-ghost use Rattle.candump.specs.Importing.{isSeconds, isMicros, isTime, isInterface, identifierIn, isIdentified, isRemote, isBytes, bytesIn, remoteDlc, notImported, imported, dataImported, frameImported, importOf};
+ghost use mathlib.Core.List.{_++_};
+ghost use lib.ListN.{length};
+ghost use Rattle.codec.specs.Names.{mostDlc};
+ghost use Rattle.codec.specs.Fields.{canBytes};
+ghost use Rattle.candump.specs.Text.{hexValue};
+ghost use Rattle.candump.specs.Importing.{isTime, isInterface, isRemote, remoteDlc, notImported, imported, dataImported, frameImported, importOf};
+ghost use Rattle.candump.specs.Code.{identifierOr, Paired};
 use crate::Imported;
 use crate::Kind;
 use crate::MOST_LINE;
+use crate::Pairs;
 use crate::text::all_are;
 use crate::text::behind;
 use crate::text::hex_value;
@@ -30,40 +30,31 @@ const IDENTIFIER_DIGITS: usize = 3;
 
 const MOST_IDENTIFIER: u16 = 0x7FF;
 
-fn is_seconds(text: &[u8]) -> bool
-    ensures { λ r. ⌜ r ≡ isSeconds (now (text .entry)) ⌝ }
-{
-    if text.len() == 0 {
-        return false;
-    }
-    all_are(Kind::Decimal, text)
-}
+const NO_IDENTIFIER: u16 = MOST_IDENTIFIER + 1;
 
-// Six digits and the closing bracket.
-fn is_micros(text: &[u8]) -> bool
-    ensures { λ r. ⌜ r ≡ isMicros (now (text .entry)) ⌝ }
-{
-    if text.len() != MICRO_DIGITS + 1 {
-        return false;
-    }
-    if text[MICRO_DIGITS] != b')' {
-        return false;
-    }
-    all_are(Kind::Decimal, &text[..MICRO_DIGITS])
-}
-
+// A bracket, at least one digit, a point, six digits and a bracket.
 fn is_time(text: &[u8]) -> bool
     ensures { λ r. ⌜ r ≡ isTime (now (text .entry)) ⌝ }
 {
-    if byte_at(text, 0) != b'(' {
+    let n = text.len();
+    if n < MICRO_DIGITS + 4 {
         return false;
     }
-    let inner = behind(0, text);
-    let point = place_of(b'.', inner);
-    if !is_seconds(&inner[..point]) {
+    if text[0] != b'(' {
         return false;
     }
-    is_micros(behind(point, inner))
+    let point = n - (MICRO_DIGITS + 2);
+    if text[point] != b'.' {
+        return false;
+    }
+    let closing = n - 1;
+    if text[closing] != b')' {
+        return false;
+    }
+    if !all_are(Kind::Decimal, &text[1..point]) {
+        return false;
+    }
+    all_are(Kind::Decimal, &text[point + 1..closing])
 }
 
 fn is_interface(text: &[u8]) -> bool
@@ -78,30 +69,23 @@ fn is_interface(text: &[u8]) -> bool
     all_are(Kind::Visible, text)
 }
 
-// The number that the first three digits say.
-fn identifier_in(text: &[u8]) -> u16
-    ensures { λ r. ⌜ r ≡ identifierIn (now (text .entry)) ⌝ }
+// The number that three digits say; one above the highest identifier where one of them is none.
+fn identifier_of(a: u8, b: u8, c: u8) -> u16
+    ensures { λ r. ⌜ r ≡ identifierOr (hexValue a) (hexValue b) (hexValue c) ⌝ }
 {
-    hex_value(byte_at(text, 0)) as u16 * 256
-        + hex_value(byte_at(text, 1)) as u16 * 16
-        + hex_value(byte_at(text, 2)) as u16
-}
-
-// Whether a frame has three digits of an identifier and a # behind them.
-fn is_identified(frame: &[u8]) -> bool
-    ensures { λ r. ⌜ r ≡ isIdentified (now (frame .entry)) ⌝ }
-{
-    let mark = place_of(b'#', frame);
-    if frame.len() <= mark {
-        return false;
+    let high = hex_value(a);
+    if 15 < high {
+        return NO_IDENTIFIER;
     }
-    if mark != IDENTIFIER_DIGITS {
-        return false;
+    let middle = hex_value(b);
+    if 15 < middle {
+        return NO_IDENTIFIER;
     }
-    if !all_are(Kind::Hex, &frame[..mark]) {
-        return false;
+    let low = hex_value(c);
+    if 15 < low {
+        return NO_IDENTIFIER;
     }
-    identifier_in(frame) <= MOST_IDENTIFIER
+    high as u16 * 256 + middle as u16 * 16 + low as u16
 }
 
 // R alone, or with a digit up to 8.
@@ -120,43 +104,67 @@ fn is_remote(body: &[u8]) -> bool
     is_within(b'0', b'8', body[1])
 }
 
-// Up to eight whole bytes.
-fn is_bytes(body: &[u8]) -> bool
-    ensures { λ r. ⌜ r ≡ isBytes (now (body .entry)) ⌝ }
+// The bytes that pairs of digits say, with zeros behind them, if there are up to eight and each digit is one.
+fn bytes_of(body: &[u8]) -> Pairs
+    ensures { λ r. ⌜ Paired (now (body .entry)) r ⌝ }
 {
-    if body.len() % 2 != 0 {
-        return false;
+    let mut bytes = [0; 8];
+    let n = body.len();
+    if 2 * (codec::MOST_DLC as usize) < n {
+        return Pairs {
+            whole: false,
+            bytes,
+        };
     }
-    if 2 * (codec::MOST_DLC as usize) < body.len() {
-        return false;
+    if n % 2 != 0 {
+        return Pairs {
+            whole: false,
+            bytes,
+        };
     }
-    all_are(Kind::Hex, body)
-}
-
-// Puts the bytes that the digits say to the front.
-fn put_bytes(digits: &[u8], places: &mut [u8])
-    requires { ⌜ allAre Kind.Hex (now digits) ≡ true ⌝ }
-    requires { ⌜ length (now digits) ≤ 2 * length (now places) ⌝ }
-    ensures { λ _. ⌜ now (places .exit) ≡ bytesIn (now (digits .entry)) ++ drop (length (now (digits .entry)) / 2) (now (places .entry)) ⌝ }
-{
     let mut i = 0;
-    while i < digits.len() / 2 {
-        places[i] = hex_value(digits[2 * i]) * 16 + hex_value(digits[2 * i + 1]);
+    while i < n / 2 {
+        let high = hex_value(body[2 * i]);
+        let low = hex_value(body[2 * i + 1]);
+        if 15 < high {
+            return Pairs {
+                whole: false,
+                bytes,
+            };
+        }
+        if 15 < low {
+            return Pairs {
+                whole: false,
+                bytes,
+            };
+        }
+        bytes[i] = high * 16 + low;
         i += 1;
     }
+    Pairs { whole: true, bytes }
 }
 
-// The record with this CAN header and the bytes that the digits say.
-fn record_of(can: Can, digits: &[u8]) -> Imported
-    requires { ⌜ isBytes (now digits) ≡ true ⌝ }
-    ensures { λ r. ⌜ r ≡ imported 0 (recordOf can (bytesIn (now (digits .entry)))) ⌝ }
+// The record with this CAN header and these data bytes.
+fn record_of(can: Can, bytes: [u8; 8]) -> Imported
+    requires { ⌜ length bytes ≡ mostDlc ⌝ }
+    ensures { λ r. ⌜ r ≡ imported 0 (canBytes can ++ bytes) ⌝ }
 {
     let header = codec::can_bytes(can);
-    let mut frame = [0; codec::FRAME_SIZE];
-    frame[0] = header[0];
-    frame[1] = header[1];
-    put_bytes(digits, &mut frame[2..]);
-    Imported { number: 0, frame }
+    Imported {
+        number: 0,
+        frame: [
+            header[0],
+            header[1],
+            bytes[0],
+            bytes[1],
+            bytes[2],
+            bytes[3],
+            bytes[4],
+            bytes[5],
+            bytes[6],
+            bytes[7],
+        ],
+    }
 }
 
 fn not_imported(number: u8) -> Imported
@@ -189,15 +197,17 @@ fn import_data(identifier: u16, body: &[u8]) -> Imported
             rtr: 1,
             dlc: remote_dlc(body),
         };
-        return record_of(can, &body[..0]);
+        return record_of(can, [0; 8]);
     }
-    if is_bytes(body) {
+    let read = bytes_of(body);
+    if read.whole {
         let can = Can {
             identifier,
             rtr: 0,
             dlc: (body.len() / 2) as u8,
         };
-        return record_of(can, body);
+        let bytes = read.bytes;
+        return record_of(can, bytes);
     }
     not_imported(4)
 }
@@ -206,10 +216,17 @@ fn import_data(identifier: u16, body: &[u8]) -> Imported
 fn import_frame(frame: &[u8]) -> Imported
     ensures { λ r. ⌜ r ≡ frameImported (now (frame .entry)) ⌝ }
 {
-    if !is_identified(frame) {
+    if frame.len() <= IDENTIFIER_DIGITS {
         return not_imported(3);
     }
-    import_data(identifier_in(frame), behind(IDENTIFIER_DIGITS, frame))
+    if frame[IDENTIFIER_DIGITS] != b'#' {
+        return not_imported(3);
+    }
+    let identifier = identifier_of(frame[0], frame[1], frame[2]);
+    if MOST_IDENTIFIER < identifier {
+        return not_imported(3);
+    }
+    import_data(identifier, &frame[IDENTIFIER_DIGITS + 1..])
 }
 
 // The record of a line's frame. Refused are 1 (over 128 bytes), 2 (time or interface), 3 (identifier) and 4 (data), the first that applies.

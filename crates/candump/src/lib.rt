@@ -4,6 +4,7 @@ mod importing;
 mod text;
 
 pub use exporting::export_record;
+pub use exporting::put_line;
 pub use importing::import_line;
 pub use text::place_of;
 
@@ -23,6 +24,12 @@ pub enum Kind {
     Hex,
 }
 
+// Digits as bytes, with zeros behind them, if they are whole bytes and at most eight.
+pub struct Pairs {
+    pub whole: bool,
+    pub bytes: [u8; 8],
+}
+
 // What a line is imported to: 0 and the ten bytes of its record, or the number of the refusal and zeros.
 pub struct Imported {
     pub number: u8,
@@ -34,4 +41,10 @@ pub struct Exported {
     pub number: u8,
     pub len: usize,
     pub line: [u8; 36],
+}
+
+// What is put into a buffer: 0 and the line's length, or the number of the refusal and 0.
+pub struct Put {
+    pub number: u8,
+    pub len: usize,
 }

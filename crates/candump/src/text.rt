@@ -1,9 +1,9 @@
 // Bytes of text: their kinds, hex digits, and where a part of a text ends.
 ghost use mathlib.Core.Path.{_≡_};
-ghost use Prim.Native.Nat.{_+_, _<_};
+ghost use Prim.Native.Nat.{_+_};
 ghost use lib.ListN.{drop};
 ghost use Rattle.bytes.specs.Bytes.{indexOf};
-ghost use Rattle.candump.specs.Text.{within, hexValue, hexDigit, isA, allAre};
+ghost use Rattle.candump.specs.Text.{within, hexValue, isA, allAre};
 use crate::Kind;
 
 // The place of the first such byte; the length where there is none. So a line is what stands before the place of the next line feed.
@@ -46,17 +46,6 @@ pub(crate) fn hex_value(c: u8) -> u8
         return c - (b'a' - 10);
     }
     16
-}
-
-// The digit of a value, in capitals.
-pub(crate) fn hex_digit(value: u8) -> u8
-    requires { ⌜ value < 16 ⌝ }
-    ensures { λ r. ⌜ r ≡ hexDigit value ⌝ }
-{
-    if value < 10 {
-        return b'0' + value;
-    }
-    b'A' - 10 + value
 }
 
 fn is_a(kind: Kind, c: u8) -> bool

@@ -1,19 +1,17 @@
 -- What a buffer holds after bytes were put behind those that it held.
 use Prim.Native.Nat.{ℕ, _+_, _-_, _%_, _<_, _≤_, min}
-use mathlib.Core.Path.{_≡_, refl, sym, ap, _∙_}
-use mathlib.Core.Bool.{true, false, cond, _&&_}
+use mathlib.Core.Path.{_≡_, sym, ap, _∙_}
 use mathlib.Core.List.{List, [], _∷_, _++_, append-nil}
 use native.Mathlib.Omega.{arith}
-use lib.ListN.{length, take, drop, replicate, length-append, length-take, length-drop, drop-of-length-le}
+use lib.ListN.{length, take, drop, replicate, length-append, length-take, drop-of-length-le}
 use lib.Seq.{take-nil, take-all, take-length, take-at, take-append-le, take-append-add, drop-append-add, length-take-le}
-use lib.Dec.{ltb, leb}
+use lib.Dec.{ltb}
 use borrow.Author.Tests.{ltb-true, ltb-false, le-leb, lt-leb, lt-ltb, le-ltb}
 use Rattle.laws.specs.Bytes.{padded}
 use Rattle.laws.specs.Put.{put}
 use Rattle.laws.proofs.Bytes.{length-padded, drop-zeros}
 use Rattle.laws.proofs.Put.{put-nothing, part-back}
 use Rattle.laws.proofs.Tests.{split}
-use Rattle.pipes.specs.declared.Complaint.{Complaint}
 use Rattle.pipes.specs.Buffers.{fitting, appended, appendedCount, sentFrom, complaintRoom, complaintText, complaintOf}
 
 take-min : (m : ℕ) (p : List ℕ) → take (min (length p) m) p ≡ take m p

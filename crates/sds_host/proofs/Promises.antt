@@ -1,25 +1,24 @@
 -- WHAT THE BORDER PROMISES of lines and records: what is refused and what then stays, and the way there and back.
-use Prim.Native.Nat.{ℕ, _*_, _/_, _<_, _≤_}
-use mathlib.Core.Path.{_≡_, refl, sym, ap, _∙_}
-use mathlib.Core.Bool.{true, false, cond}
-use mathlib.Core.List.{List, _++_}
+use Prim.Native.Nat.{ℕ, _*_, _/_, _%_, _<_, _≤_}
+use mathlib.Core.Path.{_≡_, refl}
+use mathlib.Core.List.{List}
 use mathlib.Core.Logic.{_↔_}
 use native.Mathlib.Omega.{arith}
 use lib.ListN.{length, take, drop}
 use lib.Seq.{take-at}
-use lib.Dec.{eqb, ltb}
-use borrow.Author.Tests.{eqb-true, eqb-false, eq-eqb, ne-eqb, ltb-false, le-ltb}
+use lib.Dec.{eqb}
+use borrow.Author.Tests.{eqb-true, eqb-false, eq-eqb, ne-eqb}
 use Rattle.laws.specs.Bytes.{Bytes}
-use Rattle.laws.specs.Checks.{firstOf, holdsAt, FirstAt}
+use Rattle.laws.specs.Checks.{FirstAt}
 use Rattle.laws.proofs.Tests.{split}
-use Rattle.laws.proofs.Checks.{given-exactly, first-most}
+use Rattle.laws.proofs.Checks.{first-most}
 use Rattle.codec.specs.Names.{frameSize, mostDlc}
 use Rattle.codec.specs.Fields.{canOf}
 use Rattle.candump.specs.Frame.{unusedCleared}
 use Rattle.candump.specs.Importing.{importChecks, importOf}
-use Rattle.candump.specs.Exporting.{lineRoom, lineOf, exportOf}
-use Rattle.candump.proofs.Promises.{import-number, line-back}
-use Rattle.sds_host.specs.Border.{borderImportNumber, borderImport, borderExportChecks, borderExportNumber, borderExportAnswer, borderExport}
+use Rattle.candump.specs.Exporting.{lineRoom, lineOf, putChecks, putOf, putLeft}
+use Rattle.candump.proofs.Promises.{import-number, put-refuses-exactly, put-small, refused-buffer-unchanged, put-leaves, line-back}
+use Rattle.sds_host.specs.Border.{borderImportNumber, borderImport, borderExportAnswer}
 
 -- ---- refusals
 
@@ -36,9 +35,13 @@ pub else-as-imported : (l r : List ℕ) → length r ≡ frameSize → borderImp
 unfolding borderImportNumber
 else-as-imported l r ten = simp (eq-eqb (length r) frameSize ten)
 
-pub export-refuses-exactly : (r l : List ℕ) (n : ℕ) → 0 < n → (borderExportNumber r l ≡ n) ↔ FirstAt (borderExportChecks r l) n
-unfolding borderExportNumber
-export-refuses-exactly r l n h = given-exactly (borderExportChecks r l) refl n h
+-- an answer holds a number and a length, apart, as `SDS_LINE_NUMBER` and `SDS_LINE_LENGTH` take them
+pub answer-apart : (r l : List ℕ) → (borderExportAnswer r l % 256 ≡ putOf r l .number) × (borderExportAnswer r l / 256 ≡ putOf r l .len)
+unfolding borderExportAnswer
+answer-apart r l = let p = put-small r l in (omega (arith, p .0), omega (arith, p .0))
+
+pub export-refuses-exactly : (r l : List ℕ) (n : ℕ) → 0 < n → (borderExportAnswer r l % 256 ≡ n) ↔ FirstAt (putChecks r l) n
+export-refuses-exactly r l n h = rw (answer-apart r l .0) (put-refuses-exactly r l n h)
 
 -- ---- what is refused stays as it was
 
@@ -46,28 +49,22 @@ pub refused-record-unchanged : (l r : List ℕ) → (borderImportNumber l r ≡ 
 unfolding borderImport
 refused-record-unchanged l r h = simp (ne-eqb (borderImportNumber l r) 0 h)
 
-pub refused-line-unchanged : (r l : List ℕ) → (borderExportNumber r l ≡ 0 → ⊥) → borderExport r l ≡ l
-unfolding borderExport
-refused-line-unchanged r l h = simp (ne-eqb (borderExportNumber r l) 0 h)
+pub refused-line-unchanged : (r l : List ℕ) → (putOf r l .number ≡ 0 → ⊥) → putLeft r l ≡ l
+refused-line-unchanged r l h = refused-buffer-unchanged r l h
 
 -- ---- there and back: a record of ten bytes with a DLC up to 8, a buffer of at least 36 and any record buffer of ten
 
 module _ (r l : List ℕ) (b : Bytes r) (ten : length r ≡ frameSize) (few : canOf r .dlc ≤ mostDlc) (room : lineRoom ≤ length l) where
-  none : borderExportNumber r l ≡ 0
-  unfolding borderExportNumber
-  none = simp (eq-eqb (length r) frameSize ten, le-ltb mostDlc (canOf r .dlc) few, le-ltb (length l) lineRoom room)
-
   pub answers-length : borderExportAnswer r l ≡ 256 * length (lineOf r)
   unfolding borderExportAnswer
-  answers-length = simp none
+  answers-length = let p = put-leaves r l ten few room in omega (arith, p .0, p .1)
 
-  pub line-at-front : take (length (lineOf r)) (borderExport r l) ≡ lineOf r
-  unfolding borderExport
-  line-at-front = simp none (take-at (lineOf r) (drop (length (lineOf r)) l) (length (lineOf r)) refl)
+  pub line-at-front : take (length (lineOf r)) (putLeft r l) ≡ lineOf r
+  line-at-front = rw (put-leaves r l ten few room .2) (take-at (lineOf r) (drop (length (lineOf r)) l) (length (lineOf r)) refl)
 
   pub there-and-back : (s : List ℕ) → length s ≡ frameSize
-      → (borderImportNumber (take (length (lineOf r)) (borderExport r l)) s ≡ 0)
-      × (borderImport (take (length (lineOf r)) (borderExport r l)) s ≡ unusedCleared r)
+      → (borderImportNumber (take (length (lineOf r)) (putLeft r l)) s ≡ 0)
+      × (borderImport (take (length (lineOf r)) (putLeft r l)) s ≡ unusedCleared r)
   unfolding borderImportNumber borderImport
   there-and-back s n =
       let t = eq-eqb (length s) frameSize n in

@@ -1,6 +1,7 @@
 // The border to C of what a host uses beside the device: byte slices and numbers, as in sds. Nothing is asked of a caller.
 ghost use mathlib.Core.Path.{_≡_};
-ghost use Rattle.sds_host.specs.Border.{borderImportNumber, borderImport, borderExportAnswer, borderExport};
+ghost use Rattle.candump.specs.Exporting.{putLeft};
+ghost use Rattle.sds_host.specs.Border.{borderImportNumber, borderImport, borderExportAnswer};
 
 // The record of a line of a can-utils log. Refused are 5 (not ten bytes), before the others; then 1 to 4, as import_line has them; and the record stays.
 #[no_mangle]
@@ -18,20 +19,11 @@ pub extern "C" fn sds_import_line(line: &[u8], frame: &mut [u8]) -> u32
     0
 }
 
-// The line of a record, at the front of its buffer: number + 256 * length. Refused are 1 and 2, as export_record has them, and then 3 (a buffer of under 36 bytes), and the buffer stays.
+// The line of a record, at the front of its buffer: number + 256 * length. Refused are 1, 2 and 3, as put_line has them, and the buffer stays.
 #[no_mangle]
 pub extern "C" fn sds_export_record(frame: &[u8], line: &mut [u8]) -> u32
-    ensures { λ r. ⌜ (r ≡ borderExportAnswer (now (frame .entry)) (now (line .entry))) × (now (line .exit) ≡ borderExport (now (frame .entry)) (now (line .entry))) ⌝ }
+    ensures { λ r. ⌜ (r ≡ borderExportAnswer (now (frame .entry)) (now (line .entry))) × (now (line .exit) ≡ putLeft (now (frame .entry)) (now (line .entry))) ⌝ }
 {
-    let made = candump::export_record(frame);
-    if made.number != 0 {
-        return made.number as u32;
-    }
-    if line.len() < candump::LINE_ROOM {
-        return 3;
-    }
-    let text = made.line;
-    let len = made.len;
-    bytes::copy(&text[..len], line);
-    256 * (len as u32)
+    let put = candump::put_line(frame, line);
+    (put.number as u32) + 256 * (put.len as u32)
 }

@@ -1,6 +1,5 @@
 use lib.ListN.{length}
 use mathlib.Core.Path.{_≡_}
-use Prim.Native.Nat.{_<_}
 use borrow.Author.Needs.{needs}
 use Rattle.import.proofs.main.Statement.{statement}
 use Rattle.import.proofs.main.Tie as tie

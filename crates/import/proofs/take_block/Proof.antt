@@ -4,7 +4,7 @@ use Rattle.import.proofs.Blocks.{place-most}
 use native.Mathlib.Omega.{arith}
 use lib.ListN.{length}
 use mathlib.Core.Path.{_≡_}
-use Prim.Native.Nat.{_-_, _<_}
+use Prim.Native.Nat.{_-_}
 use borrow.Author.Needs.{needs}
 use Rattle.import.proofs.take_block.Statement.{statement}
 use Rattle.import.proofs.take_block.Tie as tie

@@ -1,8 +1,6 @@
-use lib.Seq.{length-take-le}
-use lib.ListN.{length, length-take, length-drop}
+use lib.ListN.{length-take, length-drop}
 use Rattle.pipes.proofs.Filling.{no-room, put-in, counted}
 use native.Mathlib.Omega.{arith}
-use mathlib.Core.Path.{_≡_, refl, sym, ap, _∙_}
 use borrow.Author.Needs.{needs}
 use Rattle.pipes.proofs.append.Statement.{statement}
 use Rattle.pipes.proofs.append.Tie as tie

@@ -1,6 +1,5 @@
 use Rattle.pipes.specs.Buffers.{complaintRoom}
 use Rattle.pipes.proofs.Filling.{filled-none, filled-more, complaint-made}
-use mathlib.Core.Path.{_≡_, refl, sym, ap, _∙_}
 use borrow.Author.Needs.{needs}
 use Rattle.pipes.proofs.complaint_of.Statement.{statement}
 use Rattle.pipes.proofs.complaint_of.Tie as tie

@@ -1,8 +1,7 @@
 use lib.Seq.{length-take-le}
 use Rattle.pipes.proofs.Filling.{front-of}
-use lib.ListN.{length}
 use native.Mathlib.Omega.{arith}
-use mathlib.Core.Path.{_≡_, refl, sym, ap, _∙_}
+use mathlib.Core.Path.{sym}
 use borrow.Author.Needs.{needs}
 use Rattle.pipes.proofs.front.Statement.{statement}
 use Rattle.pipes.proofs.front.Tie as tie

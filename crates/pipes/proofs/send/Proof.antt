@@ -1,6 +1,4 @@
-use native.Mathlib.Omega.{arith}
 use Rattle.pipes.proofs.Filling.{from-there, from-front, from-behind}
-use mathlib.Core.Path.{_≡_, refl, sym, ap, _∙_}
 use borrow.Author.Needs.{needs}
 use Rattle.pipes.proofs.send.Statement.{statement}
 use Rattle.pipes.proofs.send.Tie as tie

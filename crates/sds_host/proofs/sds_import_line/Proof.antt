@@ -1,5 +1,3 @@
-use mathlib.Core.Path.{_≡_, refl, sym, ap, _∙_}
-use Rattle.candump.proofs.Promises.{import-size}
 use Rattle.sds_host.proofs.Buffers.{no-record, not-imported, imported}
 use borrow.Author.Needs.{needs}
 use Rattle.sds_host.proofs.sds_import_line.Statement.{statement}

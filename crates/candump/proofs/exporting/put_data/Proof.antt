@@ -10,9 +10,6 @@ use Rattle.candump.specs.Frame.{dataText, hexOf}
 use borrow.Author.Needs.{needs}
 use Rattle.candump.proofs.exporting.put_data.Statement.{statement}
 use Rattle.candump.proofs.exporting.put_data.Tie as tie
-use Rattle.candump.proofs.exporting.put_data.Reads as reads
-use Rattle.candump.proofs.exporting.put_data.Lts as lts
-use Rattle.candump.proofs.exporting.put_digits.Reads as put-digits-reads
 
 slice-write-places : tie.Need-slice-write-places
 slice-write-places c = search needs
@@ -42,9 +39,10 @@ slice-aggregate-put-digits c =
 
 put-digits-requires : tie.Need-put-digits-requires
 put-digits-requires c κs =
-    let x = c .before .before .before .before .before .before .before .args in
+    let s = c .before .before .before .before .before .before .before in
+    let x = s .args in
     let n = length-take-le (x .can .dlc) (x .body .now) (omega arith) in
-    omega arith
+    (s .pre .0, omega arith)
 
 mul-result : tie.Need-mul-result
 mul-result c = search needs

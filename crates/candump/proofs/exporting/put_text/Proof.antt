@@ -1,6 +1,5 @@
 use Rattle.candump.proofs.Texts.{data-most, text-length, text-put}
 use native.Mathlib.Omega.{arith}
-use mathlib.Core.Path.{_≡_, refl, sym, ap, _∙_}
 use borrow.Author.Needs.{needs}
 use Rattle.candump.proofs.exporting.put_text.Statement.{statement}
 use Rattle.candump.proofs.exporting.put_text.Tie as tie
@@ -18,13 +17,13 @@ part-put-data-end : tie.Need-part-put-data-end
 part-put-data-end c = search needs
 
 put-data-requires : tie.Need-put-data-requires
-put-data-requires c κs = search needs
+put-data-requires c κs = let s = c .before .before .before .before .before .before .before in (s .pre .0, search needs)
 
 add-result : tie.Need-add-result
 add-result c =
     let d = c .before .before in
     let x = d .before .before .before .before .before .before .before .before in
-    omega (arith, d .put-data .ensures .0, data-most (x .args .can) (x .args .body .now) (x .pre .0))
+    omega (arith, d .put-data .ensures .0, data-most (x .args .can) (x .args .body .now) (x .pre .1 .0))
 
 same-length : tie.Need-same-length
 same-length c = search needs

@@ -1,20 +1,12 @@
 use Rattle.candump.specs.Importing.{isTime, isInterface, frameImported}
 use Rattle.candump.specs.Text.{space, behind}
 use borrow.Author.Tests.{not-true, not-false}
-use mathlib.Core.Path.{_≡_, refl, sym, ap, _∙_}
+use mathlib.Core.Path.{refl, sym, ap, _∙_}
 use Rattle.candump.proofs.Cuts.{cut-at, cut-count}
 use Rattle.candump.proofs.Parts.{too-long, bad-time, bad-interface, line-frame}
 use borrow.Author.Needs.{needs}
 use Rattle.candump.proofs.importing.import_line.Statement.{statement}
 use Rattle.candump.proofs.importing.import_line.Tie as tie
-use Rattle.candump.proofs.importing.import_line.Reads as reads
-use Rattle.candump.proofs.importing.import_line.Lts as lts
-use Rattle.candump.proofs.importing.import_frame.Reads as import-frame-reads
-use Rattle.candump.proofs.importing.is_interface.Reads as is-interface-reads
-use Rattle.candump.proofs.importing.is_time.Reads as is-time-reads
-use Rattle.candump.proofs.importing.not_imported.Reads as not-imported-reads
-use Rattle.candump.proofs.text.behind.Reads as behind-reads
-use Rattle.candump.proofs.text.place_of.Reads as place-of-reads
 
 not-imported-requires : tie.Need-not-imported-requires
 not-imported-requires c κs = search needs

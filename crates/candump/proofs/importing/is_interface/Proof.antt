@@ -2,13 +2,9 @@ use lib.ListN.{length}
 use native.Mathlib.Omega.{arith}
 use borrow.Author.Tests.{lt-ltb, le-ltb, le-leb, lt-leb}
 use Rattle.candump.specs.Importing.{isInterface}
-use Rattle.laws.proofs.Tests.{tests}
 use borrow.Author.Needs.{needs}
 use Rattle.candump.proofs.importing.is_interface.Statement.{statement}
 use Rattle.candump.proofs.importing.is_interface.Tie as tie
-use Rattle.candump.proofs.importing.is_interface.Reads as reads
-use Rattle.candump.proofs.importing.is_interface.Lts as lts
-use Rattle.candump.proofs.text.all_are.Reads as all-are-reads
 
 returns : tie.Need-returns
 unfolding isInterface

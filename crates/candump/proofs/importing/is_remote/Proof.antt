@@ -1,9 +1,7 @@
-use mathlib.Core.Path.{_≡_, sym, ap, _∙_}
+use mathlib.Core.Path.{sym, _∙_}
 use lib.ListN.{length, getD}
-use native.Mathlib.Omega.{arith}
 use borrow.Author.Tests.{eq-eqb, ne-eqb}
 use Rattle.candump.specs.Importing.{isRemote}
-use Rattle.laws.proofs.Tests.{tests}
 use borrow.Author.Needs.{needs}
 use Rattle.candump.proofs.importing.is_remote.Statement.{statement}
 use Rattle.candump.proofs.importing.is_remote.Tie as tie

@@ -1,78 +1,121 @@
-use Rattle.candump.proofs.Cuts.{cut-at, cut-count}
-use mathlib.Core.Path.{_≡_, sym, ap, _∙_}
-use lib.ListN.{getD, drop}
-use borrow.Author.Tests.{eq-eqb, ne-eqb, not-true, not-false}
-use Rattle.candump.specs.Text.{point}
-use Rattle.candump.specs.Importing.{isTime, isSeconds, isMicros}
+use Rattle.laws.proofs.Tests.{clash}
+use Rattle.candump.specs.Importing.{isTime}
+use Rattle.candump.proofs.Places.{refuted, time-placed, placed-time, same-test}
+use borrow.Author.Tests.{not-true, not-false}
+use native.Mathlib.Omega.{arith}
+use mathlib.Core.Path.{sym, _∙_}
 use borrow.Author.Needs.{needs}
 use Rattle.candump.proofs.importing.is_time.Statement.{statement}
 use Rattle.candump.proofs.importing.is_time.Tie as tie
-use Rattle.candump.proofs.importing.is_time.Reads as reads
-use Rattle.candump.proofs.importing.is_time.Lts as lts
-use Rattle.candump.proofs.importing.is_micros.Reads as is-micros-reads
-use Rattle.candump.proofs.importing.is_seconds.Reads as is-seconds-reads
-use Rattle.candump.proofs.text.behind.Reads as behind-reads
-use Rattle.candump.proofs.text.place_of.Reads as place-of-reads
-use Rattle.octets.proofs.byte_at.Reads as byte-at-reads
 
-byte-at-requires : tie.Need-byte-at-requires
-byte-at-requires c κs = search needs
+add-if1 : tie.Need-add-if1
+add-if1 c = search needs
 
 returns : tie.Need-returns
-unfolding isTime
-returns c = simp (ne-eqb (getD (c .before .before .before .args .text .now) 0 0) 40 (λ e. c .if1 .taken (c .before .byte-at .ensures ∙ e)))
+returns c = let t = c .before .before .args .text .now in refuted (isTime t) (λ e. let p = time-placed t e in omega (arith, p .least))
 
-behind-requires : tie.Need-behind-requires
-behind-requires c κs = search needs
-
-place-of-requires : tie.Need-place-of-requires
-place-of-requires c κs = search needs
-
-slice-aggregate-is-seconds : tie.Need-slice-aggregate-is-seconds
-slice-aggregate-is-seconds c = cut-count point (c .before .before .behind .result .now) (c .before .place-of .result) (c .before .place-of .ensures)
-
-is-seconds-requires : tie.Need-is-seconds-requires
-is-seconds-requires c κs = search needs
+shared-slice-read-if2 : tie.Need-shared-slice-read-if2
+shared-slice-read-if2 c = search needs
 
 returns-2 : tie.Need-returns-2
-unfolding isTime
-returns-2 c =
-    let p = c .before .before .before in
-    let b = p .before in
-    let t = b .before .before .before .before .args .text .now in
-    let q = cut-at point (drop 1 t) (b .behind .result .now) (p .place-of .result) (b .behind .ensures) (p .place-of .ensures) in
-    let no = ap isSeconds (sym (q .0)) ∙ sym (c .before .is-seconds .ensures) ∙ not-true _ (c .if2 .taken) in
-    simp (eq-eqb (getD t 0 0) 40 (sym (b .before .before .byte-at .ensures) ∙ b .before .if1 .left), no)
+returns-2 c = let t = c .before .before .before .before .args .text .now in refuted (isTime t) (λ e. c .if2 .taken (time-placed t e .opens))
 
-behind-requires-2 : tie.Need-behind-requires-2
-behind-requires-2 c κs = search needs
+add-point : tie.Need-add-point
+add-point c = search needs
 
-is-micros-requires : tie.Need-is-micros-requires
-is-micros-requires c κs = search needs
+sub-point : tie.Need-sub-point
+sub-point c = search needs
+
+shared-slice-read-if3 : tie.Need-shared-slice-read-if3
+shared-slice-read-if3 c = search needs
 
 returns-3 : tie.Need-returns-3
-unfolding isTime
-returns-3 c =
-    let i = c .before .before in
-    let p = i .before .before .before in
-    let b = p .before in
-    let t = b .before .before .before .before .args .text .now in
-    let q = cut-at point (drop 1 t) (b .behind .result .now) (p .place-of .result) (b .behind .ensures) (p .place-of .ensures) in
-    let yes = ap isSeconds (sym (q .0)) ∙ sym (i .before .is-seconds .ensures) ∙ not-false _ (i .if2 .left) in
-    simp (eq-eqb (getD t 0 0) 40 (sym (b .before .before .byte-at .ensures) ∙ b .before .if1 .left), yes)
-    (c .is-micros .ensures ∙ ap isMicros (c .before .behind2 .ensures ∙ q .1))
+returns-3 c = let t = c .before .before .before .before .before .before .args .text .now in refuted (isTime t) (λ e. c .if3 .taken (time-placed t e .points))
+
+sub-closing : tie.Need-sub-closing
+sub-closing c = search needs
+
+shared-slice-read-if4 : tie.Need-shared-slice-read-if4
+shared-slice-read-if4 c = search needs
+
+returns-4 : tie.Need-returns-4
+returns-4 c = let t = c .before .before .before .before .before .before .before .before .args .text .now in refuted (isTime t) (λ e. c .if4 .taken (time-placed t e .closes))
+
+sub-all-are : tie.Need-sub-all-are
+sub-all-are c = search needs
+
+part-all-are-start : tie.Need-part-all-are-start
+part-all-are-start c = search needs
+
+part-all-are-end : tie.Need-part-all-are-end
+part-all-are-end c = search needs
+
+all-are-requires : tie.Need-all-are-requires
+all-are-requires c κs = search needs
+
+returns-5 : tie.Need-returns-5
+returns-5 c =
+    let t = c .before .before .before .before .before .before .before .before .before .before .before .args .text .now in
+    refuted (isTime t) (λ e. clash (time-placed t e .seconds) (sym (c .before .all-are .ensures) ∙ not-true _ (c .if5 .taken)))
+
+add-all-are : tie.Need-add-all-are
+add-all-are c = search needs
+
+sub-all-are-2 : tie.Need-sub-all-are-2
+sub-all-are-2 c = search needs
+
+part-all-are-start-2 : tie.Need-part-all-are-start-2
+part-all-are-start-2 c = search needs
+
+part-all-are-end-2 : tie.Need-part-all-are-end-2
+part-all-are-end-2 c = search needs
+
+all-are-requires-2 : tie.Need-all-are-requires-2
+all-are-requires-2 c κs = search needs
+
+returns-6 : tie.Need-returns-6
+returns-6 c =
+    let five = c .before .before in
+    let four = five .before .before .before in
+    let three = four .before .before in
+    let two = three .before .before in
+    let one = two .before .before in
+    let t = one .before .before .args .text .now in
+    c .all-are2 .ensures
+    ∙ same-test _ (isTime t)
+    (λ yes. placed-time t (record {
+      least = omega (arith, one .if1 .left);
+      opens = two .if2 .left;
+      points = three .if3 .left;
+      closes = four .if4 .left;
+      seconds = sym (five .before .all-are .ensures) ∙ not-false _ (five .if5 .left);
+      micros = yes;
+    }))
+    (λ e. time-placed t e .micros)
 
 pub is-time-spec : {M : Type 1} → statement M
 is-time-spec =
     tie.close
     (tie.spec
-    byte-at-requires
+    add-if1
     returns
-    behind-requires
-    place-of-requires
-    slice-aggregate-is-seconds
-    is-seconds-requires
+    shared-slice-read-if2
     returns-2
-    behind-requires-2
-    is-micros-requires
-    returns-3)
+    add-point
+    sub-point
+    shared-slice-read-if3
+    returns-3
+    sub-closing
+    shared-slice-read-if4
+    returns-4
+    sub-all-are
+    part-all-are-start
+    part-all-are-end
+    all-are-requires
+    returns-5
+    add-all-are
+    sub-all-are-2
+    part-all-are-start-2
+    part-all-are-end-2
+    all-are-requires-2
+    returns-6)

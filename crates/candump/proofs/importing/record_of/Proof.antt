@@ -1,59 +1,61 @@
-use Rattle.candump.proofs.Parts.{whole, record-made}
-use native.Mathlib.Omega.{arith}
-use mathlib.Core.Path.{_≡_, refl, sym, ap, _∙_}
-use Rattle.candump.specs.Frame.{recordOf}
+use mathlib.Core.List.{_++_}
+use Rattle.codec.specs.Fields.{canBytes}
+use Rattle.candump.proofs.Places.{eight-places}
+use mathlib.Core.Path.{ap}
 use borrow.Author.Needs.{needs}
 use Rattle.candump.proofs.importing.record_of.Statement.{statement}
 use Rattle.candump.proofs.importing.record_of.Tie as tie
-use Rattle.candump.proofs.importing.record_of.Reads as reads
-use Rattle.candump.proofs.importing.record_of.Lts as lts
-use Rattle.candump.proofs.importing.put_bytes.Reads as put-bytes-reads
-use Rattle.codec.proofs.can_bytes.Reads as can-bytes-reads
 
 can-bytes-requires : tie.Need-can-bytes-requires
 can-bytes-requires c κs = search needs
 
-array-read-frame : tie.Need-array-read-frame
-array-read-frame c = search needs
+array-read-t8 : tie.Need-array-read-t8
+array-read-t8 c = search needs
 
-array-write-frame : tie.Need-array-write-frame
-array-write-frame c = search needs
+array-read-t11 : tie.Need-array-read-t11
+array-read-t11 c = search needs
 
-array-read-frame-2 : tie.Need-array-read-frame-2
-array-read-frame-2 c = search needs
+array-read-t14 : tie.Need-array-read-t14
+array-read-t14 c = search needs
 
-array-write-frame-2 : tie.Need-array-write-frame-2
-array-write-frame-2 c = search needs
+array-read-t17 : tie.Need-array-read-t17
+array-read-t17 c = search needs
 
-sub-put-bytes : tie.Need-sub-put-bytes
-sub-put-bytes c = search needs
+array-read-t20 : tie.Need-array-read-t20
+array-read-t20 c = search needs
 
-part-frame-start : tie.Need-part-frame-start
-part-frame-start c = search needs
+array-read-t23 : tie.Need-array-read-t23
+array-read-t23 c = search needs
 
-part-frame-end : tie.Need-part-frame-end
-part-frame-end c = search needs
+array-read-t26 : tie.Need-array-read-t26
+array-read-t26 c = search needs
 
-put-bytes-requires : tie.Need-put-bytes-requires
-put-bytes-requires c κs = let w = whole _ (c .before .before .before .pre) in (w .hex, w .most)
+array-read-t29 : tie.Need-array-read-t29
+array-read-t29 c = search needs
+
+array-read-t32 : tie.Need-array-read-t32
+array-read-t32 c = search needs
+
+array-read-t35 : tie.Need-array-read-t35
+array-read-t35 c = search needs
 
 returns : tie.Need-returns
-returns c =
-    let h = c .before .before .before in
-    let x = h .before .before .args in
-    ap (λ r. record { number = 0; frame = r }) (record-made (x .can) (x .digits .now) (h .can-bytes .result) _ (h .can-bytes .ensures) (c .before .put-bytes .ensures))
+unfolding canBytes
+returns c = rw (c .can-bytes .ensures) (ap (λ l. record { number = 0; frame = canBytes (c .before .args .can) ++ l }) (eight-places (c .before .args .t2) (c .before .pre)))
 
 pub record-of-spec : {M : Type 1} → statement M
 record-of-spec =
     tie.close
     (tie.spec
     can-bytes-requires
-    array-read-frame
-    array-write-frame
-    array-read-frame-2
-    array-write-frame-2
-    sub-put-bytes
-    part-frame-start
-    part-frame-end
-    put-bytes-requires
+    array-read-t8
+    array-read-t11
+    array-read-t14
+    array-read-t17
+    array-read-t20
+    array-read-t23
+    array-read-t26
+    array-read-t29
+    array-read-t32
+    array-read-t35
     returns)

@@ -1,9 +1,7 @@
-use borrow.Author.Tests.{not-true}
 use native.Mathlib.Omega.{arith}
-use Rattle.candump.specs.Text.{within, hexValue}
+use Rattle.candump.specs.Text.{hexValue}
 use Rattle.candump.proofs.Digits.{from-within}
-use mathlib.Core.Bool.{true, false}
-use mathlib.Core.Path.{_≡_, sym, _∙_}
+use mathlib.Core.Path.{sym, _∙_}
 use borrow.Author.Needs.{needs}
 use Rattle.candump.proofs.text.hex_value.Statement.{statement}
 use Rattle.candump.proofs.text.hex_value.Tie as tie

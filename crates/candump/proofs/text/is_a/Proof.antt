@@ -1,6 +1,6 @@
 use lib.Dec.{ltb}
 use Rattle.candump.specs.Text.{isA}
-use mathlib.Core.Path.{_≡_, ap}
+use mathlib.Core.Path.{ap}
 use borrow.Author.Needs.{needs}
 use Rattle.candump.proofs.text.is_a.Statement.{statement}
 use Rattle.candump.proofs.text.is_a.Tie as tie
