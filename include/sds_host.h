@@ -8,13 +8,14 @@
  *     (seconds.micros) interface ID#data
  *
  * with one space between the parts. Seconds are decimal digits, at least one, micros six; the interface is 1 to 15 bytes of 21 to 7E hex; the ID is
- * three hex digits up to 7FF; the data are up to eight bytes of two hex digits each, or R for a remote frame (RTR), behind which a digit up to 8 may
- * stand, its DLC. Hex digits are of either case. A record's first byte and its service are the ID. The line's end is no part of it: a line that ends
- * in CR and LF has the CR as its last byte, and is refused for it.
+ * three hex digits up to 7FF; the data are up to eight bytes of two hex digits each, or R (a capital) for a remote frame (RTR), behind which a digit
+ * up to 8 may stand, its DLC. Hex digits are of either case. A record's first byte and its service are the ID. The line's end is no part of it: a
+ * line that ends in CR and LF has the CR as its last byte, and is refused for it. So is one with a direction behind the data, ` R` or ` T`, as
+ * `candump -x` and other tools write it.
  *
  *     uint8_t record[SDS_RECORD];
  *     if (sds_import_line(line, length, record, sizeof record) == SDS_LINE_IMPORTED)
- *         uint32_t reply = sds_device_step(&device, record, sizeof record);
+ *         reply = sds_device_step(&device, record, sizeof record);
  */
 #ifndef SDS_HOST_H
 #define SDS_HOST_H
@@ -32,7 +33,7 @@ extern "C" {
 enum sds_import {
     SDS_LINE_IMPORTED = 0,
     SDS_LINE_TOO_LONG = 1,         /* over SDS_LINE_MOST bytes */
-    SDS_LINE_BAD_FRONT = 2,        /* a malformed time or interface */
+    SDS_LINE_BAD_FRONT = 2,        /* a malformed time or interface; the interface stands up to the next space or the line's end */
     SDS_LINE_BAD_IDENTIFIER = 3,   /* no # behind the interface, or before it not three hex digits up to 7FF */
     SDS_LINE_BAD_DATA = 4,         /* behind # neither up to eight whole bytes nor R with at most a digit up to 8 */
     SDS_LINE_NO_RECORD = 5         /* the record buffer is not SDS_RECORD bytes */
@@ -44,7 +45,7 @@ enum sds_import {
  */
 uint32_t sds_import_line(const uint8_t *line, uint64_t line_len, uint8_t *record, uint64_t record_len);
 
-/* What sds_export_record answers is a number and the length of the line, 0 where it is refused. */
+/* What sds_export_record answers is a number, the first whose condition holds, and the length of the line, 0 where it is refused. */
 #define SDS_LINE_NUMBER(answer) ((answer) & 255u)
 #define SDS_LINE_LENGTH(answer) ((answer) >> 8)
 

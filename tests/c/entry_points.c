@@ -1,10 +1,11 @@
 /*
- * Calls all five entry points of the archive and checks the cases that the scope page marks P, with every byte of every lent buffer. Then what
- * the headers add to them: structs, and records of CAN frames.
+ * Calls all five entry points of the device's archive and checks the cases that the scope page marks P, with every byte of every lent buffer. Then what
+ * the headers add to them: structs, and records of CAN frames. Then the two of the host's archive, of captures.
  */
 #include <stdio.h>
 #include <string.h>
 #include "sds_can.h"
+#include "sds_host.h"
 
 enum { STORE = 67 };
 static const uint8_t table[] = {
@@ -129,6 +130,43 @@ static void frames(void)
     frame("frame, RTR as a flag of its own", 0x40000000, 3, RECORD(0x09, 0xB3));
 }
 
+/* a line to its record, which holds EE before; a refused one leaves it so */
+static void imported(const char *name, uint32_t number, const char *line, const uint8_t expected[SDS_RECORD])
+{
+    uint8_t record[SDS_RECORD];
+    memset(record, 0xEE, sizeof record);
+    check(name, sds_import_line((const uint8_t *)line, strlen(line), record, sizeof record) == number && !memcmp(record, expected, sizeof record));
+}
+
+/* a record to its line, in a buffer of that room which holds EE before; a refused one, whose line is empty, leaves it so */
+static void exported(const char *name, uint32_t number, uint64_t room, const uint8_t record[SDS_RECORD], const char *expected)
+{
+    uint8_t line[SDS_LINE_ROOM + 1], line_is[sizeof line];
+    memset(line, 0xEE, sizeof line);
+    memset(line_is, 0xEE, sizeof line_is);
+    memcpy(line_is, expected, strlen(expected));
+    uint32_t answer = sds_export_record(record, SDS_RECORD, line, room);
+    check(name, SDS_LINE_NUMBER(answer) == number && SDS_LINE_LENGTH(answer) == strlen(expected) && !memcmp(line, line_is, sizeof line));
+}
+
+static void captures(void)
+{
+    const uint8_t *untouched = RECORD(0xEE, 0xEE, 0xEE, 0xEE, 0xEE, 0xEE, 0xEE, 0xEE, 0xEE, 0xEE), *p1 = RECORD(0x09, 0x84, 3, 10, 0x2C, 0x01);
+    imported("line of P1", SDS_LINE_IMPORTED, "(1713859202.902882) can0 04c#030A2c01", p1);
+    imported("line of a remote frame", SDS_LINE_IMPORTED, "(0.000000) c#n 7FF#R8", RECORD(0xFF, 0xF8));
+    imported("line with a bad time", SDS_LINE_BAD_FRONT, "(0.00000) can0 04C#030A2C01", untouched);
+    imported("line with a bad identifier", SDS_LINE_BAD_IDENTIFIER, "(0.000000) can0 800#", untouched);
+    imported("line with bad data", SDS_LINE_BAD_DATA, "(0.000000) can0 04C#030A2C0", untouched);
+    uint8_t nine[SDS_RECORD - 1] = {0}, none[sizeof nine] = {0};
+    check("no record for a line", sds_import_line(NULL, 0, nine, sizeof nine) == SDS_LINE_NO_RECORD && !memcmp(nine, none, sizeof nine));
+    exported("record of P1", SDS_RECORD_EXPORTED, SDS_LINE_ROOM, RECORD(0x09, 0x84, 3, 10, 0x2C, 0x01, 9, 9, 9, 9), "(0.000000) can0 04C#030A2C01");
+    exported("record of eight bytes", SDS_RECORD_EXPORTED, SDS_LINE_ROOM + 1, RECORD(0xFF, 0xE8, 0xAB, 1, 2, 3, 4, 5, 6, 7),
+             "(0.000000) can0 7FF#AB01020304050607");
+    exported("record with a bad DLC", SDS_RECORD_BAD_DLC, SDS_LINE_ROOM - 1, RECORD(0x09, 0x89, 3), "");
+    exported("no room for a line", SDS_RECORD_NO_LINE, SDS_LINE_ROOM - 1, p1, "");
+    check("record of nine bytes", sds_export_record(p1, SDS_RECORD - 1, nine, 0) == SDS_RECORD_BAD_LENGTH);
+}
+
 int main(void)
 {
     check("table", sds_table_check(table, sizeof table, STORE) == 0 && sds_table_check(table, sizeof table - 1, STORE) == 1 &&
@@ -138,6 +176,7 @@ int main(void)
     messages();
     fields();
     short_services();
+    captures();
     frames();
     return failed;
 }

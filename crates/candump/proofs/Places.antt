@@ -163,13 +163,13 @@ eight-places l e =
     (sym (drop-of-length-le l {i = 8} (omega arith)))
     ∙ places-back 8 0 l (omega arith)
 
-pub unpaired : (d b : List ℕ) → (isBytes d ≡ true → ⊥) → Paired d (record { whole = false; bytes = b })
+pub unpaired : (d b : List ℕ) → (isBytes d ≡ true → ⊥) → Paired d (record { all = false; bytes = b })
 unpaired d b h = record { whole = refuted (isBytes d) h; bytes = λ e. absurd (true≢false (sym e)) }
 
-pub paired : (d b : List ℕ) → isBytes d ≡ true → b ≡ padded mostDlc (bytesIn d) → Paired d (record { whole = true; bytes = b })
+pub paired : (d b : List ℕ) → isBytes d ≡ true → b ≡ padded mostDlc (bytesIn d) → Paired d (record { all = true; bytes = b })
 paired d b e f = record { whole = sym e; bytes = λ _. f }
 
-pub paired-size : (d : List ℕ) (r : Pairs) → Paired d r → r .whole ≡ true → length (r .bytes) ≡ mostDlc
+pub paired-size : (d : List ℕ) (r : Pairs) → Paired d r → r .all ≡ true → length (r .bytes) ≡ mostDlc
 paired-size d r p e =
     let w = whole d (sym (p .whole) ∙ e) in
     ap length (p .bytes e) ∙ length-padded mostDlc (bytesIn d) (omega (arith, bytes-count d, w .most))

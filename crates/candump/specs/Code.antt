@@ -17,5 +17,5 @@ identifierOr h m l =
 
 -- whether digits are whole bytes and, where they are, those bytes with zeros behind them
 pub record Paired (d : List ℕ) (r : Pairs) : Type 0 where
-  pub whole : r .whole ≡ isBytes d
-  pub bytes : r .whole ≡ true → r .bytes ≡ padded mostDlc (bytesIn d)
+  pub whole : r .all ≡ isBytes d
+  pub bytes : r .all ≡ true → r .bytes ≡ padded mostDlc (bytesIn d)

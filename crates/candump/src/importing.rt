@@ -111,37 +111,25 @@ fn bytes_of(body: &[u8]) -> Pairs
     let mut bytes = [0; 8];
     let n = body.len();
     if 2 * (codec::MOST_DLC as usize) < n {
-        return Pairs {
-            whole: false,
-            bytes,
-        };
+        return Pairs { all: false, bytes };
     }
     if n % 2 != 0 {
-        return Pairs {
-            whole: false,
-            bytes,
-        };
+        return Pairs { all: false, bytes };
     }
     let mut i = 0;
     while i < n / 2 {
         let high = hex_value(body[2 * i]);
         let low = hex_value(body[2 * i + 1]);
         if 15 < high {
-            return Pairs {
-                whole: false,
-                bytes,
-            };
+            return Pairs { all: false, bytes };
         }
         if 15 < low {
-            return Pairs {
-                whole: false,
-                bytes,
-            };
+            return Pairs { all: false, bytes };
         }
         bytes[i] = high * 16 + low;
         i += 1;
     }
-    Pairs { whole: true, bytes }
+    Pairs { all: true, bytes }
 }
 
 // The record with this CAN header and these data bytes.
@@ -200,7 +188,7 @@ fn import_data(identifier: u16, body: &[u8]) -> Imported
         return record_of(can, [0; 8]);
     }
     let read = bytes_of(body);
-    if read.whole {
+    if read.all {
         let can = Can {
             identifier,
             rtr: 0,

@@ -24,9 +24,9 @@ pub enum Kind {
     Hex,
 }
 
-// Digits as bytes, with zeros behind them, if they are whole bytes and at most eight.
+// Digits as bytes, with zeros behind them, if all are pairs of hex digits and there are at most eight.
 pub struct Pairs {
-    pub whole: bool,
+    pub all: bool,
     pub bytes: [u8; 8],
 }
 
