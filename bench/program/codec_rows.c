@@ -3,10 +3,8 @@
 #include "counting.h"
 #include "reference.h"
 
-typedef uint32_t codec_function(const uint8_t *from, uint64_t from_len, uint8_t *to, uint64_t to_len);
-codec_function empty_codec;
-static codec_function *const readers[SIDES] = {empty_codec, sds_read, ref_read};
-static codec_function *const writers[SIDES] = {empty_codec, sds_write, ref_write};
+static buffer_function *const readers[SIDES] = {empty_codec, sds_read, ref_read};
+static buffer_function *const writers[SIDES] = {empty_codec, sds_write, ref_write};
 
 struct codec_row {
     const char *name;
@@ -40,7 +38,7 @@ static const struct codec_row writes[] = {
 /* the direction that is counted: whom it calls, and the buffer that it fills */
 static const struct direction {
     const char *name;
-    codec_function *const *sides;
+    buffer_function *const *sides;
     uint8_t *to;
     uint64_t to_len;
 } reading = {"sds_read", readers, lent.message, sizeof lent.message}, writing = {"sds_write", writers, lent.record, sizeof lent.record}, *direction;
@@ -48,7 +46,7 @@ static const struct direction {
 static uint32_t call_codec(enum side side, const void *row)
 {
     const struct codec_row *call = row;
-    codec_function *function = direction->sides[side];
+    buffer_function *function = direction->sides[side];
     mark_begin();
     uint32_t reply = function(call->from, call->from_len, direction->to, direction->to_len);
     mark_end();

@@ -19,6 +19,10 @@ struct lent {
 /* What a row lends, and the buffers that are lent: each call finds `before` in `lent`, at the same addresses. */
 extern struct lent before, lent;
 
+/* a function that makes one buffer of another: the codec's two, and those of captures; the empty one */
+typedef uint32_t buffer_function(const uint8_t *from, uint64_t from_len, uint8_t *to, uint64_t to_len);
+buffer_function empty_codec;
+
 /* Makes the call of a row to the function of a side, between the two marks. */
 typedef uint32_t row_call(enum side side, const void *row);
 

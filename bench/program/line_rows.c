@@ -3,10 +3,8 @@
 #include "candump.h"
 #include "counting.h"
 
-typedef uint32_t line_function(const uint8_t *from, uint64_t from_len, uint8_t *to, uint64_t to_len);
-line_function empty_codec;
-static line_function *const importers[SIDES] = {empty_codec, sds_import_line, ref_import_line};
-static line_function *const exporters[SIDES] = {empty_codec, sds_export_record, ref_export_record};
+static buffer_function *const importers[SIDES] = {empty_codec, sds_import_line, ref_import_line};
+static buffer_function *const exporters[SIDES] = {empty_codec, sds_export_record, ref_export_record};
 
 struct import_row {
     const char *name;
@@ -47,7 +45,7 @@ static const struct export_row exports[] = {
 static uint32_t call_import(enum side side, const void *row)
 {
     const struct import_row *call = row;
-    line_function *function = importers[side];
+    buffer_function *function = importers[side];
     size_t length = strlen(call->line);
     mark_begin();
     uint32_t reply = function((const uint8_t *)call->line, length, lent.record, sizeof lent.record);
@@ -58,7 +56,7 @@ static uint32_t call_import(enum side side, const void *row)
 static uint32_t call_export(enum side side, const void *row)
 {
     const struct export_row *call = row;
-    line_function *function = exporters[side];
+    buffer_function *function = exporters[side];
     mark_begin();
     uint32_t reply = function(call->record, call->record_len, lent.line, sizeof lent.line);
     mark_end();
