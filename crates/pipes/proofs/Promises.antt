@@ -42,6 +42,10 @@ next-determined κs args r r' s s' p q = p ∙ sym q
 pub complaint-determined : (κs : _) (args : _) (r r' : _) (s s' : _) → complaint-of.Post κs args r s → complaint-of.Post κs args r' s' → r ≡ r'
 complaint-determined κs args r r' s s' p q = p ∙ sym q
 
+-- it gives nothing back, and is lent nothing that it may alter
+pub tell-determined : (κs : _) (args : _) (r r' : _) (s s' : _) → tell.Post κs args r s → tell.Post κs args r' s' → r ≡ r'
+tell-determined κs args r r' s s' p q = refl
+
 -- ---- nothing is asked of a caller
 
 pub front-asks-nothing : (κs : _) (args : _) → front.Asked κs args

@@ -4,7 +4,7 @@ use Rattle.import.proofs.Blocks.{place-most}
 use native.Mathlib.Omega.{arith}
 use lib.ListN.{length}
 use mathlib.Core.Path.{_≡_}
-use Prim.Native.Nat.{_-_}
+use Prim.Native.Nat.{_-_, _≤_}
 use borrow.Author.Needs.{needs}
 use Rattle.import.proofs.take_block.Statement.{statement}
 use Rattle.import.proofs.take_block.Tie as tie
@@ -48,19 +48,23 @@ returns c = search needs
 finish-line-requires : tie.Need-finish-line-requires Inv-loop μ-loop
 finish-line-requires c κs = search needs
 
-add-at : tie.Need-add-at Inv-loop μ-loop
-add-at c =
+-- where the line's end was found, and that it stands in the block
+abbrev line-end : tie.After-slice-known4 Inv-loop μ-loop → tie.After-place-of Inv-loop μ-loop
+line-end c =
     let whole = c .before .before .before .before .before in
-    let p = whole .before .before .before .before .before .before in
+    whole .before .before .before .before .before .before
+
+in-block : (p : tie.After-place-of Inv-loop μ-loop)
+    → p .place-of .result ≤ length (p .before .before .before .before .before .before .before .args .block .now) - p .before .before .before .loop .at
+in-block p =
     let l = p .before .before .before in
-    omega (arith, place-most (l .before .before .before .before .args .block .now) (l .loop .at) (p .place-of .result) (p .place-of .ensures))
+    place-most (l .before .before .before .before .args .block .now) (l .loop .at) (p .place-of .result) (p .place-of .ensures)
+
+add-at : tie.Need-add-at Inv-loop μ-loop
+add-at c = let p = line-end c in omega (arith, in-block p)
 
 add-at-2 : tie.Need-add-at-2 Inv-loop μ-loop
-add-at-2 c =
-    let whole = c .before .before .before .before .before in
-    let p = whole .before .before .before .before .before .before in
-    let l = p .before .before .before in
-    omega (arith, place-most (l .before .before .before .before .args .block .now) (l .loop .at) (p .place-of .result) (p .place-of .ensures))
+add-at-2 c = let p = line-end c in omega (arith, in-block p)
 
 loop-less : tie.Need-loop-less Inv-loop μ-loop
 loop-less c = search needs

@@ -1,4 +1,4 @@
-use Prim.Native.Nat.{_+_, _*_}
+use Prim.Native.Nat.{_+_, _*_, _≤_}
 use Rattle.sds_host.proofs.Buffers.{put-fits}
 use Rattle.sds_host.specs.Border.{borderExportAnswer}
 use native.Mathlib.Omega.{arith}
@@ -13,23 +13,21 @@ put-line-requires c κs = search needs
 cast-result : tie.Need-cast-result
 cast-result c = search needs
 
-cast-result-2 : tie.Need-cast-result-2
-cast-result-2 c =
+-- what was put is a small number and a small length
+small : (c : tie.After-struct-known2) → (c .before .before .before .before .put-line .result .number ≤ 3) × (c .before .before .before .before .put-line .result .len ≤ 36)
+small c =
     let k = c .before .before .before .before in
     let x = k .before .before .before .before .args in
-    omega (arith, put-fits (x .frame .now) (x .line .now) (k .put-line .result) (k .put-line .ensures .0))
+    put-fits (x .frame .now) (x .line .now) (k .put-line .result) (k .put-line .ensures .0)
+
+cast-result-2 : tie.Need-cast-result-2
+cast-result-2 c = omega (arith, small c)
 
 mul-result : tie.Need-mul-result
-mul-result c =
-    let k = c .before .before .before .before in
-    let x = k .before .before .before .before .args in
-    omega (arith, put-fits (x .frame .now) (x .line .now) (k .put-line .result) (k .put-line .ensures .0))
+mul-result c = omega (arith, small c)
 
 add-result : tie.Need-add-result
-add-result c =
-    let k = c .before .before .before .before in
-    let x = k .before .before .before .before .args in
-    omega (arith, put-fits (x .frame .now) (x .line .now) (k .put-line .result) (k .put-line .ensures .0))
+add-result c = omega (arith, small c)
 
 same-length : tie.Need-same-length
 same-length c = search needs
