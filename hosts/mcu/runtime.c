@@ -1,6 +1,6 @@
 /*
- * runtime.c: what compiled code asks of a run-time library on a 32-bit Arm, so that the archive asks a linker for nothing. All of it is
- * weak: where a product has its own library, that one is taken.
+ * runtime.c: what compiled code asks of a run-time library on a 32-bit Arm or RISC-V, so that the archive asks a linker for nothing. All of it
+ * is weak: where a product has its own library, that one is taken. It copies and fills; nothing that multiplies or divides is asked for.
  *
  * It is compiled with -ffreestanding, or a compiler would see memcpy in a loop that copies and call the function from itself.
  */
@@ -39,6 +39,8 @@ WEAK void *memset(void *to, int byte, size_t count)
     return to;
 }
 
+#ifdef __ARM_EABI__
+
 /* The names of the Arm run-time ABI. A 4 or 8 at the end promises an alignment; memset takes the count before the byte. */
 #define COPIES(name, function) \
     WEAK void name(void *to, const void *from, size_t count); \
@@ -64,12 +66,4 @@ CLEARS(__aeabi_memclr)
 CLEARS(__aeabi_memclr4)
 CLEARS(__aeabi_memclr8)
 
-/* A product of 64 bits, which a Cortex-M0 has no instruction for: of the low words all, of a high and a low one what fits. */
-WEAK uint64_t __aeabi_lmul(uint64_t a, uint64_t b);
-WEAK uint64_t __aeabi_lmul(uint64_t a, uint64_t b)
-{
-    uint32_t a0 = (uint32_t)a & 0xFFFF, a1 = (uint32_t)a >> 16, b0 = (uint32_t)b & 0xFFFF, b1 = (uint32_t)b >> 16;
-    uint32_t low = a0 * b0, middle = a1 * b0 + (low >> 16), carry = a0 * b1 + (middle & 0xFFFF);
-    uint32_t high = a1 * b1 + (middle >> 16) + (carry >> 16) + (uint32_t)(a >> 32) * (uint32_t)b + (uint32_t)a * (uint32_t)(b >> 32);
-    return (uint64_t)high << 32 | carry << 16 | (low & 0xFFFF);
-}
+#endif

@@ -1,6 +1,6 @@
 /*
- * hash.c: CALLS calls of the random stream from SEED, and the hash of all that came of them. The same source runs on x86-64 and on a
- * Cortex-M; both must print the same line.
+ * hash.c: CALLS calls of the random stream from SEED, and the hash of all that came of them. The same source runs on x86-64 and on each
+ * microcontroller; all must print the same line.
  */
 #include "host.h"
 #include "stream.h"

@@ -11,7 +11,6 @@ void *memmove(void *to, const void *from, size_t count);
 void *memset(void *to, int byte, size_t count);
 void __aeabi_memset(void *to, size_t count, int byte);
 void __aeabi_memclr(void *to, size_t count);
-uint64_t __aeabi_lmul(uint64_t a, uint64_t b);
 
 enum { SIZE = 24 };
 
@@ -66,15 +65,6 @@ static void fills(int to, int count, int byte)
     compare();
 }
 
-static void multiplies(uint64_t a, uint64_t b)
-{
-    uint64_t product = 0, addend = a;
-    for (uint64_t rest = b; rest; rest >>= 1, addend += addend)
-        if (rest & 1)
-            product += addend;
-    expect(__aeabi_lmul(a, b) == product);
-}
-
 int main(void)
 {
     for (int to = 0; to < 12; to++)
@@ -84,12 +74,6 @@ int main(void)
             fills(to, count, 0);
             fills(to, count, 0x1A5);
         }
-    uint64_t a = 1, b = UINT64_MAX;
-    for (int i = 0; i < 10000; i++) {
-        multiplies(a, b);
-        a ^= a << 13, a ^= a >> 7, a ^= a << 17; /* xorshift64 */
-        b = i % 3 ? a >> 31 : b + a;
-    }
     host_print_number(comparisons);
     host_exit(1);
 }

@@ -1,4 +1,4 @@
-/* What the stream needs of a C library, which a bare Cortex-M has not; hosts/mcu/runtime.c has the functions. */
+/* What the stream needs of a C library, which a bare microcontroller has not; hosts/mcu/runtime.c has the functions. */
 #ifndef STRING_H
 #define STRING_H
 

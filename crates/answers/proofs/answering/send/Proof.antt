@@ -7,8 +7,8 @@ use borrow.Author.Needs.{needs}
 use Rattle.answers.proofs.answering.send.Statement.{statement}
 use Rattle.answers.proofs.answering.send.Tie as tie
 
-mul-at : tie.Need-mul-at
-mul-at c = search needs
+frame-place-requires : tie.Need-frame-place-requires
+frame-place-requires c κs = search needs
 
 add-end : tie.Need-add-end
 add-end c = search needs
@@ -31,16 +31,17 @@ same-length c = search needs
 returns : tie.Need-returns
 returns c =
     let done = c .before .before in
-    let s = done .before .before .before in
+    let placed = done .before .before in
+    let s = placed .before .before in
     let a = s .args in
     let k : a .n * frameSize + frameSize - a .n * frameSize ≡ frameSize = omega arith in
-    rw (done .put-long .ensures, k) (put-there (a .about) (a .flag) (a .payload) (a .out .now) (a .n * frameSize) (s .pre))
+    rw (done .put-long .ensures, placed .frame-place .ensures, k) (put-there (a .about) (a .flag) (a .payload) (a .out .now) (a .n * frameSize) (s .pre))
 
 pub send-spec : {M : Type 1} → statement M
 send-spec =
     tie.close
     (tie.spec
-    mul-at
+    frame-place-requires
     add-end
     sub-put-long
     part-put-long-start

@@ -6,11 +6,11 @@ use borrow.Author.Needs.{needs}
 use Rattle.answers.proofs.answering.send_piece.Statement.{statement}
 use Rattle.answers.proofs.answering.send_piece.Tie as tie
 
+cast-number : tie.Need-cast-number
+cast-number c = search needs
+
 cast-prefixed : tie.Need-cast-prefixed
 cast-prefixed c = search needs
-
-cast-prefixed-2 : tie.Need-cast-prefixed-2
-cast-prefixed-2 c = search needs
 
 prefixed-requires : tie.Need-prefixed-requires
 prefixed-requires c κs = search needs
@@ -37,4 +37,4 @@ returns c =
 pub send-piece-spec : {M : Type 1} → statement M
 send-piece-spec =
     tie.close
-    (tie.spec cast-prefixed cast-prefixed-2 prefixed-requires send-requires same-length returns)
+    (tie.spec cast-number cast-prefixed prefixed-requires send-requires same-length returns)
