@@ -133,7 +133,14 @@ enum sds_access { SDS_ACCESS_READ = 1, SDS_ACCESS_WRITE = 2, SDS_ACCESS_NETWORK 
 /* What sds_step says of a table and of a store of this length, for whichever frame: 0 (well), 1 (their lengths) or 2 (not well formed). */
 uint32_t sds_table_check(const uint8_t *table, uint64_t table_len, uint64_t store_len);
 
-/* The bytes that a data descriptor of the component model describes; 0 where it is refused, as is every number over 65,535. */
+/*
+ * The bytes that a data descriptor of the component model describes; 0 where it is refused, as is every number over 65,535.
+ *
+ * A Boolean of undefined size takes as few bytes as hold its points. Earlier versions took 4 for 17 to 24 points, descriptors 0110 to 0117 hex, whatever the
+ * upper two bits are; now these take 3 (docs/requests/2026-04.md), and a table in which such a record has length 4 is refused with SDS_BAD_TABLE. Give it
+ * length 3, take its stray byte out of a store that you have kept, and 1 off each offset behind it; or leave the four bytes and describe them as a long,
+ * 0170 to 0177.
+ */
 uint32_t sds_descriptor_size(uint32_t descriptor);
 
 /* A record taken apart. Fields that a kind does not use are 0: the short form ends at its service, and a whole message has no number and total. */

@@ -79,14 +79,15 @@ static unsigned low_byte_first(const uint8_t bytes[2])
 /* The rule of 01, "Object table", about bytes 0, 2, 3, 6 and 7 that a record breaks, or null. An access goes with plain data or with a descriptor. */
 static const char *broken_in_itself(const struct sds_attribute *record)
 {
-    static char object[40];
+    static char words[80];
+    unsigned descriptor = low_byte_first(record->descriptor), size = sds_descriptor_size(descriptor);
     if (is_well_alone(*record))
         return NULL;
     bool plain = is_well_alone((struct sds_attribute){.access = record->access, .length = 1});
     bool network = is_well_alone((struct sds_attribute){.access = record->access, .length = 1, .descriptor = {0x00, 0x01} /* a Boolean */});
     if (!is_well_alone((struct sds_attribute){.object = record->object, .length = 1})) {
-        snprintf(object, sizeof object, "the object is over %d", SDS_OBJECTS - 1);
-        return object;
+        snprintf(words, sizeof words, "the object is over %d", SDS_OBJECTS - 1);
+        return words;
     }
     if (!plain && !network)
         return "the access has other bits than 1, 2 and 4";
@@ -94,9 +95,10 @@ static const char *broken_in_itself(const struct sds_attribute *record)
         return "the length is 0";
     if (plain)
         return "the data descriptor is not 0, and the access has no network data";
-    if (sds_descriptor_size(low_byte_first(record->descriptor)) == 0)
+    if (size == 0)
         return "the data descriptor is refused";
-    return "the length is not the data descriptor's size";
+    snprintf(words, sizeof words, "the length is %u, that of its data descriptor, %04X, is %u", record->length, descriptor, size);
+    return words;
 }
 
 /* The rule that a record breaks where those before it are well. */

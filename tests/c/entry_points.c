@@ -60,7 +60,7 @@ static void steps(void)
 
 static void sizes(void)
 {
-    static const uint32_t rows[][2] = {{0x0100, 1}, {0x010F, 2}, {0x0143, 2}, {0x0040, 2}, {0x0110, 4}, {0x073F, 32}, {0x0128, 0}, {0x0000, 0}, {0x10100, 0}};
+    static const uint32_t rows[][2] = {{0x0100, 1}, {0x010F, 2}, {0x0143, 2}, {0x0040, 2}, {0x0110, 3}, {0x073F, 32}, {0x0128, 0}, {0x0000, 0}, {0x10100, 0}};
     int holds = 1;
     for (unsigned i = 0; i < sizeof rows / sizeof rows[0]; i++)
         holds &= sds_descriptor_size(rows[i][0]) == rows[i][1];

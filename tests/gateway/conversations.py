@@ -163,6 +163,21 @@ def examples_of_the_specification():
         expect("the store", device.stored(), after)
 
 
+def a_block_of_24_points():
+    """02, 2026-04: three bytes on the link and in a new store, and a name right behind them; a Write of the four that it took before is refused"""
+    device = Device(bytes.fromhex("0112070300001701" "0138030803000000"), None)
+    gateway = Gateway(device, "--new-store")
+    gateway.peer.converse((NINE.read(1, 18), [record(0x89, 0xA5, 0x41, 0x12)]))
+    expect("the new store", device.stored(), bytes(11))
+    gateway.peer.converse(
+        (NINE.write(1, 18, b"\x0F\xF0\x3C"), [record(0x89, 0x82, 0x41, 0x12)]),
+        (NINE.write(1, 18, b"\x0F\xF0\x3C\x00"), [record(0x89, 0x82, 0x81, 0x12)]),
+        (NINE.fragments(1, 56, b"INPUTS A")[0], []), (NINE.fragments(1, 56, b"INPUTS A")[1], [NINE.wrote(1, 56)]),
+        (NINE.read(1, 18), [record(0x89, 0xA5, 0x41, 0x12, 0x0F, 0xF0, 0x3C)]))
+    gateway.hang_up()
+    expect("the store", device.stored(), b"\x0F\xF0\x3CINPUTS A")
+
+
 # 3: a photo-eye, whose point takes short Writes (02, 2026-01)
 
 def photo_eye_turns():
@@ -495,7 +510,8 @@ def bad_tables():
         "0202030002000000": "the length is 0",
         "0202030202004000": "the data descriptor is not 0, and the access has no network data",
         "0202070202000000": "the data descriptor is refused",
-        "0202070302004000": "the length is not the data descriptor's size",
+        "0202070302004000": "the length is 3, that of its data descriptor, 0040, is 2",
+        "0202070402001001": "the length is 4, that of its data descriptor, 0110, is 3",  # well before 02's 2026-04
         "0201030202000000": "object and attribute do not rise",
         "01FF030202000000": "object and attribute do not rise",
         "0202030203000000": "the offset is not the end of the record before, or not 0 in the first",
@@ -702,7 +718,7 @@ def main():
     def killed_at_random_moments():
         killed_at_random(seed)
 
-    for test in [two_tags_by_turns, cases_of_the_scope_page, examples_of_the_specification,
+    for test in [two_tags_by_turns, cases_of_the_scope_page, examples_of_the_specification, a_block_of_24_points,
                  short_writes, short_writes_with_garbage, no_point_to_write,
                  killed_between_two_frames, killed_at_random_moments, restarted, saved_before_the_answer, not_saved_not_acknowledged,
                  new_store, link_to_a_store,

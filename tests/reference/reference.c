@@ -163,7 +163,7 @@ uint32_t ref_write(const uint8_t *message, uint64_t message_len, uint8_t *record
 /* 01, "Descriptor sizes", Boolean: container is what a given size holds, in bytes */
 static uint32_t boolean_size(uint32_t size, uint32_t container, uint32_t points) {
     if (size == SIZE_UNDEFINED)
-        return points <= 8 ? 1 : points <= 16 ? 2 : 4;
+        return (points + 7) / 8; /* 02, 2026-04; 001, 5.1.2.5: "the lowest byte increment" that holds all points */
     return points <= 8 * container ? container : 0;
 }
 

@@ -35,7 +35,7 @@ static struct tally tallies[TALLIES] = {
     [BY_WRITTEN] = TALLY("write", "short", "whole", "fragment", "refused 1", "refused 3"),
     [BY_CODE_WRITTEN] = TALLY("write, short", SHORT_CODE_NAMES),
     [BY_TABLE] = TALLY("table_check", "0", "1", "2"),
-    [BY_SIZE] = TALLY("descriptor_size", "refused", "1", "2", "4", "other"),
+    [BY_SIZE] = TALLY("descriptor_size", "refused", "1", "2", "3", "4", "other"),
 };
 
 static void count(unsigned tally, unsigned place)
@@ -96,7 +96,7 @@ static void count_call(uint32_t result)
     case READ: count_message(BY_READ, BY_CODE_READ, result, theirs.message); break;
     case WRITE: count_message(BY_WRITTEN, BY_CODE_WRITTEN, result, message); break;
     case TABLE_CHECK: count(BY_TABLE, result); break;
-    default: count(BY_SIZE, result < 3 ? result : result == 4 ? 3 : 4); break;
+    default: count(BY_SIZE, result < 5 ? result : 5); break;
     }
 }
 
@@ -150,6 +150,39 @@ static int same_sizes(void)
     return 1;
 }
 
+/* a descriptor's size by the rule before 02's 2026-04: that of a Boolean of undefined size by the decoding table of 001, 5.2 */
+static uint32_t size_by_decoding_table(uint32_t descriptor)
+{
+    enum { BOOLEAN_OF_UNDEFINED_SIZE = 0x0100, COUNT = 0x001F, COUNT_IO_AND_NEXT = 0xC000 | COUNT, BYTE = 1, WORD = 2, LONG = 4 };
+    uint32_t count_field = descriptor & COUNT;
+    if ((descriptor & ~(uint32_t)COUNT_IO_AND_NEXT) != BOOLEAN_OF_UNDEFINED_SIZE)
+        return ref_descriptor_size(descriptor);
+    if (count_field < 8) /* "if(Count<8) Write Byte" */
+        return BYTE;
+    if (count_field < 16) /* "if(Count<16) Write Word" */
+        return WORD;
+    return LONG; /* "if(Count<32) Write Long" */
+}
+
+/* 02, 2026-04: three bytes where the table has four, for eight values of N (17 to 24) and four of I/O and Next; every other size stayed */
+static int sizes_changed_as_asked(void)
+{
+    enum { DESCRIPTORS = 0x10000, TO_CHANGE = 8 * 4 };
+    uint32_t descriptor = 0, changed = 0;
+    for (; descriptor < DESCRIPTORS; descriptor++) {
+        uint32_t now = sds_descriptor_size(descriptor), before = size_by_decoding_table(descriptor);
+        if (now != before && (now != 3 || before != 4)) {
+            printf("DIFFERS: size of descriptor %04X: archive %u, by the decoding table of 5.2 %u\n", descriptor, now, before);
+            return 0;
+        }
+        changed += now != before;
+    }
+    printf("descriptor sizes: %u compared, %u other than by the decoding table of 5.2\n", descriptor, changed);
+    if (changed != TO_CHANGE)
+        printf("DIFFERS: sizes other than by the decoding table of 5.2: archive %u, by 2026-04 %d\n", changed, TO_CHANGE);
+    return changed == TO_CHANGE;
+}
+
 int main(int argc, char **argv)
 {
     struct asked asked = asked_for("differ", "FRAMES", argc, argv);
@@ -157,7 +190,7 @@ int main(int argc, char **argv)
     while (tallies[BY_ENTRY].counts[STEP] < asked.count)
         if (!same_call())
             return 1;
-    if (!same_sizes())
+    if (!same_sizes() || !sizes_changed_as_asked())
         return 1;
     if (!all_came_up()) {
         printf("a kind with 0 above never came up\n");

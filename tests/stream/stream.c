@@ -20,8 +20,8 @@ static uint32_t any_descriptor(struct stream *s, uint32_t *length)
         size = 1 + below(s, 3);
         *length = 1u << (size - 1);
         return flags | (uint32_t)(one_in(s, 2) ? SIGNED : UNSIGNED) << 8 | size << 5 | count;
-    default:
-        *length = count < 8 ? 1 : count < 16 ? 2 : 4;
+    default: /* of undefined size: as many bytes as hold count + 1 points (001, 5.1.2.5) */
+        *length = count / 8 + 1;
         return flags | BOOLEAN << 8 | count;
     }
 }

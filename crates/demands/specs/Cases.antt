@@ -80,16 +80,16 @@ cases =
     ∷ error (frame 0x09 0x88 0x22 0x38 0x00 0x1F 0x41 0x42 0x43 0x44) 11 (frame 0x89 0x82 0x82 0x38 0x00 0x00 0x00 0x00 0x00 0x00)
     ∷ []
 
--- "P12 descriptors 0100, 010F, 0143, 0040, 0110, 073F hex: 1, 2, 2, 2, 4, 32 bytes; 0128 and 0000 refused"
+-- "P12 descriptors 0100, 010F, 0143, 0040, 0110, 073F hex: 1, 2, 2, 2, 4, 32 bytes; 0128 and 0000 refused", and by 02: "Descriptor 0110 in P12 becomes 3"
 unfoldable pub descriptors : List (ℕ × ℕ)
 descriptors =
-    (0x0100, 1) ∷ (0x010F, 2) ∷ (0x0143, 2) ∷ (0x0040, 2) ∷ (0x0110, 4) ∷ (0x073F, 32) ∷ (0x0128, 0) ∷ (0x0000, 0) ∷ []
+    (0x0100, 1) ∷ (0x010F, 2) ∷ (0x0143, 2) ∷ (0x0040, 2) ∷ (0x0110, 3) ∷ (0x073F, 32) ∷ (0x0128, 0) ∷ (0x0000, 0) ∷ []
 
 -- what the definitions make of a row's records
 abbrev pub played : Case → List Reply × Areas
 played c = (map (λ t. t .1) (trace (next sample) (answer sample) (c .frames) fresh), run (next sample) (c .frames) fresh)
 
--- what the row reply
+-- what the row says
 abbrev pub expected : Case → List Reply × Areas
 expected c = (c .replies, areas (c .store) (c .work))
 

@@ -1,20 +1,41 @@
 -- Descriptor sizes against 001's own table and examples, computed; and laws of the size bits.
-use Prim.Native.Nat.{ℕ, zero, suc, _%_, _≤_, _<_}
+use Prim.Native.Nat.{ℕ, zero, suc, _+_, _/_, _%_, _≤_, _<_}
 use mathlib.Core.Path.{_≡_, refl, sym, _∙_}
-use mathlib.Core.List.{[], _∷_, _++_, map}
+use mathlib.Core.Logic.{_↔_}
+use mathlib.Core.List.{List, [], _∷_, _++_, map, flatMap}
 use native.Mathlib.Omega.{arith}
 use lib.ListN.{replicate}
-use lib.Dec.{eqb}
+use lib.Dec.{eqb, ltb}
 use borrow.Author.Tests.{eqb-true, eqb-false, eq-eqb, ne-eqb}
-use Rattle.laws.specs.Bytes.{upFrom}
+use Rattle.laws.specs.Bytes.{bits, upFrom}
+use Rattle.laws.specs.Checks.{firstOf}
 use Rattle.laws.proofs.Tests.{split}
 use Rattle.laws.proofs.Checks.{first-most}
-use Rattle.table.specs.Descriptor.{elementsOf, sizeBytes, sizeBy, descriptorSize}
+use Rattle.table.specs.Descriptor.{elementsOf, sizeBytes, booleanSize, LowestBytes, sizeBy, descriptorSize}
 
--- 001, 5.2: a Boolean of undefined size, for N from 1 to 32: 1 byte up to 8 points, 2 up to 16, 4 up to 32
-pub decoding-table : map descriptorSize (upFrom 0x0100 32) ≡ replicate 8 1 ++ replicate 8 2 ++ replicate 16 4
-unfolding descriptorSize sizeBy
-decoding-table = refl
+-- 001, 5.2, of a Boolean of undefined size: "if(Count<8) Write Byte, if(Count<16) Write Word, if(Count<32) Write Long" (and "if(Count=0) Write Bool", which is a byte)
+abbrev pub decoded : ℕ → ℕ
+decoded d = firstOf ((ltb (bits 4 0 d) 8, 1) ∷ (ltb (bits 4 0 d) 16, 2) ∷ (ltb (bits 4 0 d) 32, 4) ∷ [])
+
+-- such descriptors with these counts, under each setting of I/O and Next
+abbrev pub undefinedBooleans : List ℕ → List ℕ
+undefinedBooleans counts = flatMap (λ flags. map (λ count. flags + 0x0100 + count) counts) (0x0000 ∷ 0x4000 ∷ 0x8000 ∷ 0xC000 ∷ [])
+
+-- Sizes agree with the table of 5.2 for N up to 16 and from 25 to 32. For N from 17 to 24 the text of 5.1.2.5 decides instead (02, 2026-04): these 32
+-- descriptors take three bytes, where the table has four
+pub decoding-table :
+    (map descriptorSize (undefinedBooleans (upFrom 0 16 ++ upFrom 24 8)) ≡ map decoded (undefinedBooleans (upFrom 0 16 ++ upFrom 24 8)))
+    × (map descriptorSize (undefinedBooleans (upFrom 16 8)) ≡ replicate 32 3)
+    × (map decoded (undefinedBooleans (upFrom 16 8)) ≡ replicate 32 4)
+unfolding descriptorSize sizeBy flatMap
+decoding-table = (refl, refl, refl)
+
+-- a Boolean of undefined size takes the lowest number of bytes that holds its points
+pub lowest-in-words : (n bytes : ℕ) → (booleanSize 0 n ≡ bytes) ↔ LowestBytes n bytes
+lowest-in-words n bytes = (
+  λ e. record { hold = omega (arith, e); lowest = λ holding h. omega (arith, e, h) },
+  λ w. omega (arith, w .hold, w .lowest ((n + 7) / 8) (omega arith)),
+)
 
 -- 001, 5.3.1 to 5.3.4
 pub worked-descriptors : map descriptorSize (0x0100 ∷ 0x010F ∷ 0x0143 ∷ 0x0040 ∷ []) ≡ 1 ∷ 2 ∷ 2 ∷ 2 ∷ []
@@ -44,3 +65,7 @@ size-small (suc (suc (suc s))) h = absurd (omega arith)
 -- and no size names more than four
 pub size-bytes-most : (s : ℕ) → sizeBytes s ≤ 4
 size-bytes-most s = first-most 4 ((eqb s 1, 1) ∷ (eqb s 2, 2) ∷ (eqb s 3, 4) ∷ []) refl
+
+-- points where no size is given
+pub undefined-size : (s n : ℕ) → s ≡ 0 → booleanSize s n ≡ (n + 7) / 8
+undefined-size s n e = rw e refl

@@ -1,5 +1,5 @@
 -- The size of what a data descriptor describes, in bytes; 0 where the descriptor is refused (01, "Descriptor sizes"; 001, section 5).
-use Prim.Native.Nat.{ℕ, _+_, _*_}
+use Prim.Native.Nat.{ℕ, _+_, _*_, _/_, _≤_}
 use mathlib.Core.Bool.{Bool, cond, _&&_}
 use mathlib.Core.List.{[], _∷_}
 use lib.Dec.{eqb, leb}
@@ -40,12 +40,18 @@ sizeBytes s = firstOf ((eqb s 1, 1) ∷ (eqb s 2, 2) ∷ (eqb s 3, 4) ∷ [])
 abbrev pub elementsOf : ℕ → ℕ
 elementsOf d = bits 4 0 d + 1
 
--- "size undefined: N up to 8 takes 1 byte, up to 16 takes 2, up to 32 takes 4, as in the decoding table of 5.2. Size given: .. N must fit in their bits"
+-- size undefined: "the lowest byte increment to inclusively hold the all the Boolean data points" (001, 5.1.2.5; by 02, 2026-04, it decides, where 01 took
+-- the decoding table of 5.2). "Size given: .. N must fit in their bits"
 abbrev pub booleanSize : ℕ → ℕ → ℕ
 booleanSize s n =
     cond (eqb s 0)
-    (cond (leb n 8) 1 (cond (leb n 16) 2 4))
+    ((n + 7) / 8)
     (cond (leb n (8 * sizeBytes s)) (sizeBytes s) 0)
+
+-- the lowest increment in words: so many bytes hold n points, and no fewer do
+pub record LowestBytes (n bytes : ℕ) : Type 0 where
+  pub hold : n ≤ 8 * bytes
+  pub lowest : (holding : ℕ) → n ≤ 8 * holding → bytes ≤ holding
 
 -- "size long only"
 abbrev pub realSize : ℕ → ℕ

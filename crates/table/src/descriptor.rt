@@ -29,8 +29,9 @@ fn size_bytes(size: u16) -> u8
     size as u8
 }
 
-// Points: by their number where no size is given, else as sized if they fit in its bits.
+// Points: where no size is given, in as few bytes as hold them (001, 5.1.2.5); else as sized if they fit in its bits.
 fn boolean_size(size: u16, elements: u8) -> u8
+    requires { ⌜ elements ≤ 32 ⌝ }
     ensures { λ r. ⌜ r ≡ booleanSize size elements ⌝ }
 {
     if size != 0 {
@@ -40,13 +41,7 @@ fn boolean_size(size: u16, elements: u8) -> u8
         }
         return bytes;
     }
-    if elements <= 8 {
-        return 1;
-    }
-    if elements <= 16 {
-        return 2;
-    }
-    4
+    (elements + 7) / 8
 }
 
 // A number of single precision: long, or refused.
