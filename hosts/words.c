@@ -51,7 +51,6 @@ static const char *const refusals[] = {
     [SDS_NO_ACCESS] = "the attribute may not be read, or not be written",
     [SDS_OTHER_LENGTH] = "a Write of another length than the attribute's",
     [SDS_BAD_FRAGMENT] = "a fragment that begins at or behind the total, or of another length than its place asks for",
-    [SDS_BAD_NUMBER] = "a fragment number above 63",
     [SDS_OUT_OF_ORDER] = "a fragment that does not follow the one before",
 };
 

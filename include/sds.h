@@ -64,8 +64,9 @@ extern "C" {
 /*
  * The number of a reply. The first whose condition holds is given; 6 to 14 do not apply to the short form.
  *
- * 1 to 6 alter nothing at all. 7 to 13 put one error frame at the front of the output and alter nothing else. 14 does that too, and drops what
- * was joined so far for that object. With 0 there are 0 to SDS_FRAMES frames; the output beyond them stays as it was.
+ * There are thirteen refusals, 1 to 12 and 14: no call answers 13, and that number is not used again. 1 to 6 alter nothing at all. 7 to 12 put one
+ * error frame at the front of the output and alter nothing else. 14 does that too, and drops what was joined so far for that object. With 0 there are
+ * 0 to SDS_FRAMES frames; the output beyond them stays as it was.
  */
 enum sds_number {
     SDS_SERVED = 0,
@@ -83,7 +84,6 @@ enum sds_number {
     SDS_NO_ACCESS = 10,         /* the attribute may not be read, or not be written */
     SDS_OTHER_LENGTH = 11,      /* a Write of another length than the attribute's */
     SDS_BAD_FRAGMENT = 12,      /* a fragment that begins at or behind the total, or of another length than its place asks for */
-    SDS_BAD_NUMBER = 13,        /* a fragment number above 63; never given, since 12 comes first */
     SDS_OUT_OF_ORDER = 14       /* a fragment that does not follow the one before */
 };
 

@@ -17,7 +17,7 @@ enum { FROM_SOURCE = 0x80, DIRECTION_SHIFT = 7, DIRECTION_MAX = 1, ADDRESS_MASK 
 enum { SERVICE_SHIFT = 5, SERVICE_MASK = 0xE0, SERVICE_MAX = 7, REMOTE = 0x10, DLC_MASK = 0x0F, DLC_MAX = 8 };
 enum { ROLE_SHIFT = 6, ROLE_MAX = 3, FRAGMENTED = 0x20, OBJECT_MASK = 0x1F, OBJECT_MAX = 31 };
 enum { WHOLE_HEAD = 2, FRAGMENT_HEAD = 4 }; /* the part of the DLC that is not data */
-enum { WHOLE_DATA_MAX = 6, FRAGMENT_DATA_MAX = 4, NUMBER_MAX = 63 };
+enum { WHOLE_DATA_MAX = 6, FRAGMENT_DATA_MAX = 4 };
 
 /* 000, figure 3.6: the long services that are read; figure 3.8: Request/Response */
 enum { WRITE = 4, READ = 5, ACTION = 6, EVENT = 7 };
@@ -276,7 +276,7 @@ static int is_filling(const uint8_t *join) {
     return join[JOIN_STATUS] == STATUS_FILLING && join[JOIN_NEXT] >= 1 && FRAGMENT_DATA_MAX * join[JOIN_NEXT] < join[JOIN_TOTAL];
 }
 
-/* 01, checks 12 to 14; 13 never comes, since 4n of a number over 63 is above every total */
+/* 01, checks 12 and 14; 02, 2026-05, took 13 out */
 static uint32_t fragment_refusal(const uint8_t *request, const uint8_t *join) {
     uint32_t number = request[FRAME_NUMBER], total = request[FRAME_TOTAL], start = FRAGMENT_DATA_MAX * number;
     if (start >= total)
@@ -284,8 +284,6 @@ static uint32_t fragment_refusal(const uint8_t *request, const uint8_t *join) {
     uint32_t due = total - start < FRAGMENT_DATA_MAX ? total - start : FRAGMENT_DATA_MAX;
     if (dlc_of(request) - FRAGMENT_HEAD != due)
         return REF_BAD_FRAGMENT;
-    if (number > NUMBER_MAX)
-        return REF_BAD_NUMBER;
     if (number == 0)
         return REF_SERVED;
     if (!is_filling(join) || join[JOIN_ID] != request[FRAME_ID] || join[JOIN_TOTAL] != total || join[JOIN_NEXT] != number)

@@ -8,7 +8,7 @@
 enum {
     REF_SERVED, REF_BAD_LENGTHS, REF_BAD_TABLE, REF_BAD_FRAME, REF_NOT_ADDRESSED, REF_NOT_SERVABLE, REF_NOT_REQUEST, /* 0 to 6 */
     REF_ACTION_OR_EVENT, REF_BAD_FORM, REF_NO_ATTRIBUTE, REF_NO_ACCESS, REF_WRONG_LENGTH,                            /* 7 to 11 */
-    REF_BAD_FRAGMENT, REF_BAD_NUMBER, REF_OUT_OF_SEQUENCE,                                                           /* 12 to 14 */
+    REF_BAD_FRAGMENT, REF_OUT_OF_SEQUENCE = 14,                               /* 12 and 14; 02, 2026-05: 13 "is not used again" */
     REF_PER_FRAME = 256 /* a step answers its number plus this for each frame put */
 };
 

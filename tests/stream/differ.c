@@ -23,7 +23,7 @@ enum served { READ_PLAIN, READ_IN_FRAGMENTS, WRITTEN_WHOLE, KEPT, COMPLETED, COM
 
 static struct tally tallies[TALLIES] = {
     [BY_ENTRY] = TALLY("calls", "step", "read", "write", "table_check", "descriptor_size"),
-    /* 13 cannot: a number that passes check 12 is at most 63 */
+    /* 13 cannot: there is no such check (02, 2026-05) */
     [BY_NUMBER] = TALLY("step", "0", "1", "2", "3", "4", "5", "6", "7", "8", "9", "10", "11", "12", 0, "14"),
     [BY_SERVED] = TALLY("served", "Read, one frame", "Read, fragments", "whole Write", "fragment kept", "last of several", "only fragment", "short Write OFF",
                         "short Write ON"),

@@ -65,7 +65,7 @@ fn send_single(own: u8, h: Header, response: u8, body: Data, out: &mut [u8])
     send(answering(own, h, response), 0, body, 0, out);
 }
 
-// "Refusals 7 to 14 put one frame: Error, flag clear, DLC 2": no data, whatever the number.
+// "Refusals 7 to 14 put one frame: Error, flag clear, DLC 2" (13 is gone: 02, 2026-05): no data, whatever the number.
 pub fn refuse(own: u8, h: Header, number: u8, out: &mut [u8])
     ensures { λ _. ⌜ now (out .exit) ≡ refusedWith own h number (now (out .entry)) ⌝ }
 {

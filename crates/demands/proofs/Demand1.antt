@@ -2,29 +2,26 @@
 use Prim.Native.Nat.{ℕ, _+_, _≤_, _<_}
 use mathlib.Core.Path.{_≡_, refl, ap, _∙_}
 use mathlib.Core.Logic.{_↔_, _≢_}
-use mathlib.Core.Bool.{not}
-use mathlib.Core.List.{List, [], _∷_, _++_, append-nil}
+use mathlib.Core.List.{List, [], _∷_, _++_, map, append-nil}
 use native.Mathlib.Omega.{arith}
 use lib.ListN.{length, drop}
 use lib.Seq.{take-at, drop-at}
-use borrow.Author.Tests.{not-true}
-use Rattle.laws.specs.Checks.{firstOf, holdsAt, FirstAt}
-use Rattle.laws.proofs.Checks.{given-exactly, none-holds, first-most, holds-append}
-use Rattle.laws.proofs.Tests.{clash, halves}
+use Rattle.laws.specs.Checks.{Check, firstOf, holdsAt, FirstAt}
+use Rattle.laws.proofs.Checks.{given-exactly, none-holds, first-most}
+use Rattle.laws.proofs.Tests.{clash}
 use Rattle.laws.proofs.Put.{length-put, put-front}
 use Rattle.codec.specs.Fields.{headerOf}
-use Rattle.codec.specs.Reading.{messageOf}
 use Rattle.codec.proofs.Headers.{ranged}
 use Rattle.join.specs.Work.{recordSize, areaSize, base, dropped}
 use Rattle.join.proofs.Places.{base-inside}
 use Rattle.join.proofs.Records.{dropped-length, dropped-status, dropped-others}
-use Rattle.guest.specs.Checks.{leastOut, inShort, outOfOrder, soughtIn, planChecks}
+use Rattle.guest.specs.Checks.{leastOut}
 use Rattle.guest.specs.Step.{areas, sent, Call, settingOf, Outcome, outcome, outcomeOf, stepOf}
-use Rattle.guest.proofs.Plans.{Accepted, accepted, unrefused-by}
-use Rattle.guest.proofs.Numbers.{number-is, no-thirteen}
+use Rattle.guest.proofs.Plans.{Accepted, accepted}
+use Rattle.guest.proofs.Numbers.{number-is}
 use Rattle.guest.proofs.Effects.{Kind, mute, error, astray, fine, kind, ignored, refused-only, refused-dropping}
 use Rattle.guest.proofs.Frames.{error-ten}
-use Rattle.demands.specs.Demand1.{checksOf, errorFor, OneFrame, Dropped, Demand1}
+use Rattle.demands.specs.Demand1.{checksOf, refusals, errorFor, OneFrame, Dropped, Demand1}
 
 module _ (c : Call) where
   abbrev the-number : ℕ
@@ -53,7 +50,7 @@ module _ (c : Call) where
       go (astray a e) = absurd (omega arith)
       go (fine a) = absurd (omega arith)
 
-  error-leaves : 7 ≤ the-number → the-number ≤ 13 → stepOf c ≡ outcome the-number 1 (c .given) (sent (errorFor c the-number ∷ []) (c .out))
+  error-leaves : 7 ≤ the-number → the-number ≤ 12 → stepOf c ≡ outcome the-number 1 (c .given) (sent (errorFor c the-number ∷ []) (c .out))
   unfolding stepOf outcomeOf
   error-leaves l h = go (kind (settingOf c) (c .frame) (c .given))
     where
@@ -99,14 +96,14 @@ module _ (c : Call) where
         same-length = dropped-length (base o) (c .given .work) room;
       })
 
+  -- the table of checks has no such row
   never : the-number ≢ 13
   unfolding holdsAt
-  never e =
-      let s = settingOf c in
-      let f = exactly 13 (omega arith) .0 e in
-      let row = halves (not (inShort (headerOf (c .frame)))) (f .0) in
-      let u = unrefused-by s (c .frame) (not-true _ (row .0)) (λ n h. holds-append (planChecks s (c .frame)) ((outOfOrder (messageOf (c .frame)) (c .given .work), 14) ∷ []) n (f .1 n h)) in
-      clash {P = ⊥} (row .1) (no-thirteen s (c .frame) u (soughtIn (c .table) (headerOf (c .frame))) refl)
+  never e = clash {P = ⊥} (exactly 13 (omega arith) .0 e .0) refl
+
+-- the table of checks has a row for each of the thirteen refusals, in their order, and no other
+pub thirteen-refusals : (c : Call) → map (λ (row : Check). row .1) (checksOf c) ≡ refusals
+thirteen-refusals c = refl
 
 pub demand-1 : Demand1 stepOf
 demand-1 = record {

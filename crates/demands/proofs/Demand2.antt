@@ -104,7 +104,7 @@ module _ (c : Call) where
         rest = rw p (drop-at (flat fs) (drop (10 * length fs) (c .out)) (10 * length fs) n);
       }
 
-  -- a frame that no check refuses passes checks 1 to 13
+  -- a frame that no check refuses passes checks 1 to 12
   passes : ((n : ℕ) → holdsAt (checksOf c) n ≡ false) → firstOf (planChecks (settingOf c) (c .frame)) ≡ 0
   passes free =
       none-holds (planChecks (settingOf c) (c .frame)) refl .1

@@ -1,13 +1,13 @@
 -- DEMAND 1. "Every frame record, object table, store and work area gets an answer, and every call ends. Each refusal is given exactly when its condition
--- holds and no earlier one's does. Refusals 1 to 6 alter nothing, 7 to 13 only the ten bytes of one error frame, 14 also drops that object's half-built
--- message."
+-- holds and no earlier one's does. Refusals 1 to 6 alter nothing, 7 to 12 only the ten bytes of one error frame, 14 also drops that object's half-built
+-- message." (It read "7 to 13", of fourteen refusals, until 02, 2026-05.)
 -- Said of any device, for every record, address, table, store, work area and output, of any length and content. A device here is a function, so it answers
 -- every call; that the code is the function `stepOf` and ends is the contract of `step`.
 use Prim.Native.Nat.{ℕ, _≤_, _<_}
 use mathlib.Core.Path.{_≡_}
 use mathlib.Core.Logic.{_↔_, _≢_}
 use mathlib.Core.Bool.{false}
-use mathlib.Core.List.{List}
+use mathlib.Core.List.{List, [], _∷_}
 use lib.ListN.{length, getD, take, drop}
 use Rattle.laws.specs.Checks.{Check, holdsAt, FirstAt}
 use Rattle.codec.specs.Fields.{headerOf}
@@ -19,9 +19,13 @@ use Rattle.guest.specs.Step.{errorFrame, Call, settingOf, Outcome}
 abbrev pub Device : Type 0
 Device = Call → Outcome
 
--- the fourteen checks of a call, in 01's order
+-- the checks of a call, in 01's order
 abbrev pub checksOf : Call → List Check
 checksOf c = checks (settingOf c) (c .frame) (c .given .work)
+
+-- "thirteen refusals" (02, 2026-05): the numbers of these checks
+abbrev pub refusals : List ℕ
+refusals = 1 ∷ 2 ∷ 3 ∷ 4 ∷ 5 ∷ 6 ∷ 7 ∷ 8 ∷ 9 ∷ 10 ∷ 11 ∷ 12 ∷ 14 ∷ []
 
 -- nothing is altered, and no frame put
 pub record Untouched (c : Call) (o : Outcome) : Type 0 where
@@ -54,12 +58,12 @@ pub record Demand1 (D : Device) : Type 0 where
   pub served-exactly : (c : Call) → (D c .number ≡ 0) ↔ ((n : ℕ) → holdsAt (checksOf c) n ≡ false)
   -- there is no other number
   pub at-most-fourteen : (c : Call) → D c .number ≤ 14
-  -- a fragment that passes check 12 has a number of at most 63, so 13 is never given
+  -- "The number 13 is not used again" (02, 2026-05)
   pub thirteen-never : (c : Call) → D c .number ≢ 13
   -- 1 to 6
   pub quiet-alters-nothing : (c : Call) → 1 ≤ D c .number → D c .number ≤ 6 → Untouched c (D c)
-  -- 7 to 13
-  pub error-alters-one-frame : (c : Call) → 7 ≤ D c .number → D c .number ≤ 13
+  -- 7 to 12
+  pub error-alters-one-frame : (c : Call) → 7 ≤ D c .number → D c .number ≤ 12
       → OneFrame (errorFor c (D c .number)) c (D c) × (D c .left ≡ c .given)
   -- 14
   pub fourteen-drops : (c : Call) → D c .number ≡ 14

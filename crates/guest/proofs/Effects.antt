@@ -27,7 +27,7 @@ use Rattle.guest.proofs.Plans.{Sound, SoundJudged, sound}
 
 -- the number of what is refused is in its range
 abbrev PlanInRange : Plan → Type 0
-PlanInRange (Error n object) = (7 ≤ n) × (n ≤ 13)
+PlanInRange (Error n object) = (7 ≤ n) × (n ≤ 12)
 PlanInRange (Read a) = Unit {0}
 PlanInRange (Write a b) = Unit {0}
 PlanInRange (Join a number total b) = Unit {0}
@@ -61,13 +61,13 @@ in-range s r =
     (λ t. simp t (passing-in-range (headerOf r) (messageOf r) (soughtIn (s .table) (headerOf r))))
     (λ t.
     let z = eqb-false n 0 t in
-    let m : n ≤ 13 = first-most 13 (planChecks s r) refl in
+    let m : n ≤ 12 = first-most 12 (planChecks s r) refl in
     split (leb n 6) (λ q. simp (t, q) (omega (arith, leb-true n 6 q))) (λ q. simp (t, q) (omega (arith, leb-false n 6 q))))
 
 -- what a reply's number says of the effect
 pub data Kind (s : Setting) (r : List ℕ) (x : Areas) (n : ℕ) : Type 0 where
   mute : 1 ≤ n → n ≤ 6 → effectIn s r x ≡ ignore n → Kind s r x n
-  error : 7 ≤ n → n ≤ 13 → effectIn s r x ≡ refuse n none → Kind s r x n
+  error : 7 ≤ n → n ≤ 12 → effectIn s r x ≡ refuse n none → Kind s r x n
   astray : n ≡ 14 → effectIn s r x ≡ refuse 14 (some (headerOf r .object)) → Kind s r x n
   fine : n ≡ 0 → Kind s r x n
 

@@ -1,29 +1,26 @@
--- The number of a reply is that of the first of the fourteen checks that holds.
-use Prim.Native.Nat.{ℕ, _≤_}
-use mathlib.Core.Path.{_≡_, refl, sym, ap, subst, _∙_}
-use mathlib.Core.Bool.{true, false, cond, not}
+-- The number of a reply is that of the first of the thirteen checks that holds.
+use Prim.Native.Nat.{ℕ}
+use mathlib.Core.Path.{_≡_, refl, sym, ap, _∙_}
+use mathlib.Core.Bool.{true, cond}
 use mathlib.Core.List.{List, [], _∷_}
 use native.Mathlib.Omega.{arith}
 use lib.Dec.{eqb, leb}
-use borrow.Author.Tests.{eqb-true, eqb-false, eq-eqb, le-ltb, not-false}
+use borrow.Author.Tests.{eqb-true, eqb-false}
 use Rattle.laws.specs.Checks.{firstOf}
 use Rattle.laws.proofs.Tests.{split, clash}
 use Rattle.laws.proofs.Checks.{first-append}
 use Rattle.octets.specs.declared.Data.{Data}
 use Rattle.codec.specs.declared.Header.{Header}
-use Rattle.codec.specs.declared.Message.{Message}
-use Rattle.codec.specs.declared.Message.the-variants.{Short, Plain, Fragment}
-use Rattle.codec.specs.Names.{writeService, readService}
+use Rattle.codec.specs.Names.{readService}
 use Rattle.codec.specs.Fields.{headerOf}
 use Rattle.codec.specs.Reading.{messageOf}
 use Rattle.codec.proofs.Long.{message-short, message-plain, message-fragment}
 use Rattle.table.specs.declared.Attribute.{Attribute}
 use Rattle.table.specs.declared.Found.{Found}
 use Rattle.table.specs.declared.Found.the-variants.{At, Nothing}
-use Rattle.join.proofs.Joins.{number-most}
 use Rattle.join.specs.Work.{Piece, last, base, load, astray, joined}
 use Rattle.guest.specs.declared.Plan.the-variants.{Join}
-use Rattle.guest.specs.Checks.{Setting, inShort, unknown, wrongLength, wrongPiece, highNumber, fragmentBytes, joiner, pieceOf, outOfOrder, soughtIn, planChecks, checks}
+use Rattle.guest.specs.Checks.{Setting, inShort, unknown, joiner, pieceOf, outOfOrder, soughtIn, planChecks, checks}
 use Rattle.guest.specs.Step.{served, switched, passing, judgedOf, planEffect, effectOf, joinedIn, Areas, replyTo, answer}
 use Rattle.guest.proofs.Plans.{Unrefused, unrefused, its-of, short-found}
 
@@ -82,25 +79,3 @@ plan-number s r x =
 pub number-is : (s : Setting) (r : List ℕ) (x : Areas) → answer s r x .number ≡ firstOf (checks s r (x .work))
 number-is s r x =
     plan-number s r x ∙ sym (first-append 0 (planChecks s r) ((outOfOrder (messageOf r) (x .work), 14) ∷ []) refl)
-
--- ---- check 13 is never the first to hold
-
--- a Write that passes checks 11 and 12 passes 13
-high-fits : (h : Header) (a : Attribute) → h .service ≡ writeService → a .len ≤ 255
-    → (m : Message) → wrongLength h m (At a) ≡ false → wrongPiece m ≡ false → highNumber m ≡ false
-high-fits h a w l (Short d q v) e p = refl
-high-fits h a w l (Plain u b) e p = refl
-high-fits h a w l (Fragment u number total b) e p =
-    let n : not (eqb total (a .len)) ≡ false = simp (eq-eqb (h .service) writeService w) at e in
-    le-ltb 63 number (number-most fragmentBytes 63 total number (b .len) (omega arith) (omega (arith, eqb-true total (a .len) (not-false _ n))) (not-false _ p))
-
--- a record in long form that passes checks 1 to 12 passes 13
-pub no-thirteen : (s : Setting) (r : List ℕ) → Unrefused s r → (f : Found) → soughtIn (s .table) (headerOf r) ≡ f → highNumber (messageOf r) ≡ false
-no-thirteen s r u Nothing e = clash (ap unknown e) (u .known)
-no-thirteen s r u (At a) e =
-    let h = headerOf r in
-    split (eqb (h .service) readService)
-    (λ t. rw (message-plain r (λ q. omega (arith, u .frame .long)) (u .frame .plain-read (eqb-true (h .service) readService t))))
-    (λ t.
-    high-fits h a (u .frame .services (eqb-false (h .service) readService t)) (its-of s r u a e .place .fits .short) (messageOf r)
-    (subst (λ (f : Found). wrongLength h (messageOf r) f ≡ false) e (u .length-fits)) (u .piece-fits))

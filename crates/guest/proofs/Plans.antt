@@ -1,5 +1,5 @@
--- What a plan promises: the facts that checks 1 to 13 leave.
-use Prim.Native.Nat.{ℕ, _≤_, _<_}
+-- What a plan promises: the facts that checks 1 to 12 leave.
+use Prim.Native.Nat.{ℕ, _≤_}
 use mathlib.Core.Path.{_≡_, refl, sym, ap, subst, _∙_}
 use mathlib.Core.Bool.{Bool, true, false, not, _&&_, _||_, and-eq-true-iff}
 use mathlib.Mathlib.Data.Bool.Basic.{or-eq-false-eq-eq-false-and-eq-false as neither}
@@ -116,31 +116,29 @@ pub record Unrefused (s : Setting) (r : List ℕ) : Type 0 where
   pub length-fits : wrongLength (headerOf r) (messageOf r) (soughtIn (s .table) (headerOf r)) ≡ false
   pub piece-fits : wrongPiece (messageOf r) ≡ false
 
-pub unrefused-by : (s : Setting) (r : List ℕ) → inShort (headerOf r) ≡ false → ((n : ℕ) → n < 13 → holdsAt (planChecks s r) n ≡ false) → Unrefused s r
+pub unrefused : (s : Setting) (r : List ℕ) → inShort (headerOf r) ≡ false → firstOf (planChecks s r) ≡ 0 → Unrefused s r
 unfolding holdsAt
-unrefused-by s r long free =
-    let sizes = accepted s r (free 1 (omega arith)) in
-    let served = neither (unserved (headerOf r)) _ .0 (free 5 (omega arith)) .0 in
-    let action = applies _ (free 7 (omega arith)) in
-    let shape = applies _ (free 8 (omega arith)) in
-    let frame = passed (headerOf r) (eqb-false (headerOf r .dlc) 0 long) (free 3 (omega arith)) served action shape in
+unrefused s r long e =
+    let none = none-holds (planChecks s r) refl .0 e in
+    let sizes = accepted s r (none 1) in
+    let served = neither (unserved (headerOf r)) _ .0 (none 5) .0 in
+    let action = applies _ (none 7) in
+    let shape = applies _ (none 8) in
+    let frame = passed (headerOf r) (eqb-false (headerOf r .dlc) 0 long) (none 3) served action shape in
     record {
       long = long;
       sizes = sizes;
       frame = frame;
-      well = not-false _ (free 2 (omega arith));
+      well = not-false _ (none 2);
       read = got r (sizes .ten) (frame .unrefused);
-      known = applies _ (free 9 (omega arith));
-      length-fits = applies _ (free 11 (omega arith));
-      piece-fits = applies _ (free 12 (omega arith));
+      known = applies _ (none 9);
+      length-fits = applies _ (none 11);
+      piece-fits = applies _ (none 12);
     }
   where
-    -- of a long form, each of checks 6 to 13 is asked
+    -- of a long form, each of checks 6 to 12 is asked
     applies : (b : Bool) → not (inShort (headerOf r)) && b ≡ false → b ≡ false
     applies b e = not-both (not (inShort (headerOf r))) b e (rw long)
-
-pub unrefused : (s : Setting) (r : List ℕ) → inShort (headerOf r) ≡ false → firstOf (planChecks s r) ≡ 0 → Unrefused s r
-unrefused s r long e = unrefused-by s r long (λ n h. none-holds (planChecks s r) refl .0 e n)
 
 -- ---- sound plans
 
@@ -289,7 +287,7 @@ sound s r =
     (λ t. simp t (sound-passing s r (eqb-true _ 0 t) (soughtIn (s .table) (headerOf r)) refl))
     (λ t. split (leb (firstOf (planChecks s r)) 6) (λ q. simp (t, q) tt) (λ q. simp (t, q) (ranged r .object)))
 
--- ---- what a frame that passes checks 1 to 13 is served as
+-- ---- what a frame that passes checks 1 to 12 is served as
 
 pub data ServedBy (s : Setting) (r : List ℕ) : Type 0 where
   by-switch : (a : Attribute) → readOf r ≡ Got (shortOf (headerOf r)) → ForSwitch s (headerOf r) a

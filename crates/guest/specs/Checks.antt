@@ -115,11 +115,7 @@ wrongPiece (Short dir address service) = false
 wrongPiece (Plain u b) = false
 wrongPiece (Fragment u number total b) = not (shapedBy fragmentBytes total number (b .len))
 
--- 13  "number above 63"
-abbrev pub highNumber : Message → Bool
-highNumber (Short dir address service) = false
-highNumber (Plain u b) = false
-highNumber (Fragment u number total b) = ltb 63 number
+-- 13  there is none: "The number 13 is not used again" (02, 2026-05). 01's was "number above 63", and one that passes check 12 is at most 63
 
 -- the device's joiner, and a fragment as it sees it: the key is the ID
 abbrev pub joiner : Joiner
@@ -144,7 +140,7 @@ frontChecks s r h found =
     ∷ (noService h found, 5)
     ∷ []
 
--- checks 6 to 13, of a long form
+-- checks 6 to 12, of a long form
 abbrev pub longChecks : Header → Message → Found → List Check
 longChecks h m found =
     (notRequest h, 6)
@@ -154,10 +150,9 @@ longChecks h m found =
     ∷ (noAccess h found, 10)
     ∷ (wrongLength h m found, 11)
     ∷ (wrongPiece m, 12)
-    ∷ (highNumber m, 13)
     ∷ []
 
--- checks 1 to 13: no state decides them. "Checks 6 to 14 don't apply to" a short Write (02, 2026-01)
+-- checks 1 to 12: no state decides them. "Checks 6 to 14 don't apply to" a short Write (02, 2026-01)
 abbrev pub stateless : Setting → List ℕ → Header → Message → Found → List Check
 stateless s r h m found = frontChecks s r h found ++ onlyWhere (not (inShort h)) (longChecks h m found)
 
@@ -168,6 +163,6 @@ soughtIn t h = cond (inShort h) (firstNetwork t 0) (find t (h .object) (h .id))
 abbrev pub planChecks : Setting → List ℕ → List Check
 planChecks s r = stateless s r (headerOf r) (messageOf r) (soughtIn (s .table) (headerOf r))
 
--- all fourteen (a message in short form is never out of order)
+-- all thirteen (a message in short form is never out of order)
 abbrev pub checks : Setting → List ℕ → List ℕ → List Check
 checks s r work = planChecks s r ++ (outOfOrder (messageOf r) work, 14) ∷ []

@@ -11,7 +11,8 @@ use Rattle.guest.specs.declared.Plan.the-variants.{Error, Read, Write, J
 use Rattle.guest.specs.Checks.{Setting, joiner, pieceOf}
 use Rattle.guest.specs.Step.{Judged, quiet, switches, asks, judgedOf, Effect, effectOf, storeAfter, Reply, replyTo}
 
--- "Take all fragmented Writes to one object that pass checks 1 to 13, in order": one frame's, in front of the earlier ones
+-- "Take all fragmented Writes to one object that pass checks 1 to 12, in order" (01 has 13; 02, 2026-05, took that check out): one frame's, in front of
+-- the earlier ones
 abbrev pub withPiece : ℕ → Judged → List Piece → List Piece
 withPiece o (quiet n) h = h
 withPiece o (switches a state) h = h

@@ -27,7 +27,7 @@ use Rattle.guest.specs.Checks.{Setting, settingBy, inShort, fragmentByte
 
 -- ---- the plan: what a frame asks for, decided without state
 
--- a long form that passes checks 1 to 13 (a short message, and no record found, cannot be: check 9)
+-- a long form that passes checks 1 to 12 (a short message, and no record found, cannot be: check 9)
 abbrev pub servedWrite : Attribute → Message → Plan
 servedWrite a (Short dir address service) = Error 8 (a .object)
 servedWrite a (Plain u b) = Write a b
@@ -55,11 +55,11 @@ abbrev pub switched : Header → Found → Judged
 switched h Nothing = quiet 5
 switched h (At a) = switches a (stateOf h)
 
--- a frame that passes checks 1 to 13
+-- a frame that passes checks 1 to 12
 abbrev pub passing : Header → Message → Found → Judged
 passing h m found = cond (inShort h) (switched h found) (asks (served h m found))
 
--- refusals 1 to 6 put no frame, 7 to 13 one
+-- refusals 1 to 6 put no frame, 7 to 12 one
 abbrev pub refused : ℕ → ℕ → Judged
 refused n object = cond (leb n 6) (quiet n) (asks (Error n object))
 

@@ -9,9 +9,9 @@ pub const MOST_FRAMES: usize = 64;
 
 pub const LEAST_OUT: usize = MOST_FRAMES * codec::FRAME_SIZE;
 
-// What a frame in long form that checks 1 to 6 let pass asks for, decided by checks 7 to 13 and no state.
+// What a frame in long form that checks 1 to 6 let pass asks for, decided by checks 7 to 12 and no state.
 pub enum Plan {
-    // Refused with 7 to 13: one error frame.
+    // Refused with 7 to 12: one error frame.
     Error {
         number: u8,
         object: u8,

@@ -31,13 +31,12 @@ shaped-by-in-words w total number len =
 pub shaped-in-words : (j : Joiner) (p : Piece) → (shaped j p ≡ true) ↔ Shaped j p
 shaped-in-words j p = shaped-by-in-words (j .width) (p .total) (p .number) (length (p .bytes))
 
--- where k + 1 fragments carry all that a record has room for, a number that passes check 12 is at most k
-pub number-most : (w k total number len : ℕ) → dataSize ≤ w * suc k → total ≤ dataSize → shapedBy w total number len ≡ true → number ≤ k
-number-most w k total number len h t e =
-    let inside = shaped-by-in-words w total number len .0 e .inside in
+-- where k + 1 fragments carry all that a record has room for, the number of a fragment that passes check 12 is at most k
+pub number-most : (w k total number len : ℕ) → dataSize ≤ w * suc k → total ≤ dataSize → ShapedBy w total number len → number ≤ k
+number-most w k total number len h t s =
     split (leb number k)
     (λ l. leb-true number k l)
-    (λ l. absurd (omega (arith, inside, mul-le-mul-left {m = suc k} {n = number} w (leb-false number k l))))
+    (λ l. absurd (omega (arith, s .inside, mul-le-mul-left {m = suc k} {n = number} w (leb-false number k l))))
 
 -- a fragment of a simple joiner, whose key is one byte
 pub simple-fit : (w key total number : ℕ) (bytes : List ℕ) → total ≤ dataSize → shapedBy w total number (length bytes) ≡ true

@@ -6,15 +6,13 @@ use mathlib.Mathlib.Data.Bool.Basic.{or-eq-false-eq-eq-false-and-eq-false as nei
 use mathlib.Core.List.{List, _++_}
 use native.Mathlib.Omega.{arith}
 use lib.ListN.{length}
-use lib.Dec.{eqb, ltb}
-use borrow.Author.Tests.{not-true, not-false, eqb-true, eqb-false, ltb-false, eq-eqb, ne-eqb, lt-ltb, le-ltb, le-leb, lt-leb}
+use lib.Dec.{eqb}
+use borrow.Author.Tests.{not-false, eqb-true, eqb-false, ltb-false, eq-eqb, ne-eqb, le-ltb, le-leb, lt-leb}
 use Rattle.laws.specs.Checks.{Check, firstOf, holdsAt, onlyWhere, risesFrom}
 use Rattle.laws.proofs.Tests.{split, clash, not-both, halves}
 use Rattle.laws.proofs.Checks.{above, first-append, first-where, first-most, none-holds}
-use Rattle.octets.specs.declared.Data.{Data}
 use Rattle.octets.specs.Data.{dataOf}
 use Rattle.codec.specs.declared.Header.{Header}
-use Rattle.codec.specs.declared.Subject.{Subject}
 use Rattle.codec.specs.declared.Message.{Message}
 use Rattle.codec.specs.declared.Message.the-variants.{Short, Plain, Fragment}
 use Rattle.codec.specs.declared.Answer.{Answer}
@@ -33,11 +31,11 @@ use Rattle.table.specs.Table.{readable, writable, Ordered, firstNetwork, single
 use Rattle.join.specs.Work.{shapedBy}
 use Rattle.table.proofs.Tables.{search-finds}
 use Rattle.guest.specs.declared.Plan.{Plan}
-use Rattle.guest.specs.declared.Plan.the-variants.{Error, Join}
+use Rattle.guest.specs.declared.Plan.the-variants.{Error}
 use Rattle.guest.specs.Checks.{Setting, misfit, illFormed, notForUs, inShort, shortWrite, takesState, notRequest, actionOrEvent, badShape, fragmentBytes, soughtIn, planChecks}
 use Rattle.guest.specs.Step.{served, Judged, quiet, asks, switched, judgedOf}
 use Rattle.guest.proofs.Plans.{accepted, passed, sought-long, sought-short}
-use Rattle.judge.specs.Code.{quietChecks, routeChecks, taking, pointFor, soughtBy, shapeChecks, pieceChecks, attributeChecks, planBy, requestPlan, readFound, readPlan, bodyPlan, writePlan, answered, planByService}
+use Rattle.judge.specs.Code.{quietChecks, routeChecks, taking, pointFor, soughtBy, shapeChecks, attributeChecks, planBy, requestPlan, readFound, readPlan, piecePlan, bodyPlan, writePlan, answered, planByService}
 
 -- the DLC of a short form, and of a long one
 pub short-dlc : (dlc : ℕ) → dlc < 2 → (dlc ≡ 1 → ⊥) → eqb dlc 0 ≡ true
@@ -172,21 +170,6 @@ module _ (s : Setting) (r : List ℕ) (fits : misfit s r ≡ false) (well : illF
       quiet-judged s r (λ q. omega (arith, five, q))
       ∙ rw (five, e, point-refused (s .table) (headerOf r) t))
 
--- ---- a fragment, by what the joiner says of its shape
-
-module _ (object : ℕ) (to : Attribute) (number total : ℕ) (b : Data) (t : Bool) (e : t ≡ shapedBy fragmentBytes total number (b .len)) (u : Subject) where
-  abbrev judged : Plan
-  judged = planBy (firstOf (pieceChecks (Fragment u number total b))) object (Join to number total b)
-
-  pub unshaped : not t ≡ true → Error 12 object ≡ judged
-  unshaped q = simp (sym e ∙ not-true t q)
-
-  pub too-high : not t ≡ false → 63 < number → Error 13 object ≡ judged
-  too-high q h = simp (sym e ∙ not-false t q, lt-ltb 63 number h)
-
-  pub sound-piece : not t ≡ false → number ≤ 63 → Join to number total b ≡ judged
-  sound-piece q h = simp (sym e ∙ not-false t q, le-ltb 63 number h)
-
 -- ---- a Request, by its service
 
 -- whether a message is in long form
@@ -195,10 +178,10 @@ isLong (Short dir address service) = false
 isLong (Plain u b) = true
 isLong (Fragment u number total b) = true
 
--- checks 9 to 13 of a Write
+-- checks 9 to 12 of a Write
 write-as-checks : (h : Header) → h .service ≡ writeService → (m : Message) → isLong m ≡ true → (f : Found)
     → writePlan (h .object) m f ≡ planBy (firstOf (attributeChecks h m f)) (h .object) (served h m f)
-unfolding writePlan bodyPlan
+unfolding writePlan bodyPlan piecePlan
 write-as-checks h e m l Nothing = refl
 write-as-checks h e m l (At a) = split (writable a) (λ t. go m l t) (λ t. simp (read, t))
   where
@@ -212,7 +195,10 @@ write-as-checks h e m l (At a) = split (writable a) (λ t. go m l t) (λ t. simp
         → writePlan (h .object) m (At a) ≡ planBy (firstOf (attributeChecks h m (At a))) (h .object) (served h m (At a))
     go (Short d q v) l t = clash l refl
     go (Plain u b) l t = split (eqb (b .len) (a .len)) (λ q. simp (read, write, t, q)) (λ q. simp (read, write, t, q))
-    go (Fragment u n k b) l t = split (eqb k (a .len)) (λ q. simp (read, write, t, q)) (λ q. simp (read, write, t, q))
+    go (Fragment u n k b) l t =
+        split (eqb k (a .len))
+        (λ q. split (shapedBy fragmentBytes k n (b .len)) (λ s. simp (read, write, t, q, s)) (λ s. simp (read, write, t, q, s)))
+        (λ q. simp (read, write, t, q))
 
 -- a Request that checks 3 to 6 let pass
 module _ (table r : List ℕ) (ordered : Ordered table) (l : inShort (headerOf r) ≡ false) (b : barred (headerOf r) ≡ false) (v : unserved (headerOf r) ≡ false) where
@@ -227,7 +213,7 @@ module _ (table r : List ℕ) (ordered : Ordered table) (l : inShort (headerOf r
   five : (2 ≤ headerOf r .dlc) × (4 ≤ headerOf r .service)
   five = long-served (headerOf r) long v
 
-  -- the message of a Read that check 8 lets pass is plain, so that 11 to 13 say nothing of it
+  -- the message of a Read that check 8 lets pass is plain, so that 11 and 12 say nothing of it
   read-request : headerOf r .service ≡ readService → readPlan (headerOf r) (soughtIn table (headerOf r)) ≡ requestPlan table r
   unfolding readPlan
   read-request e =
@@ -262,7 +248,7 @@ module _ (table r : List ℕ) (ordered : Ordered table) (l : inShort (headerOf r
         let q : _≡_ {A = ℕ} 0 1 = cc in
         absurd (omega arith))
 
-    -- and of one that it reads, checks 9 to 13 are left
+    -- and of one that it reads, checks 9 to 12 are left
     write-request : (m : Message) → readOf r ≡ Got m
         → (isLong m ≡ true)
         × (planBy (firstOf (attributeChecks (headerOf r) m (soughtIn table (headerOf r)))) (headerOf r .object) (served (headerOf r) m (soughtIn table (headerOf r))) ≡ requestPlan table r)

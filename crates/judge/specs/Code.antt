@@ -4,6 +4,7 @@ use mathlib.Core.Bool.{cond, not, _&&_, _||_}
 use mathlib.Core.List.{List, [], _∷_, _++_}
 use lib.Dec.{eqb}
 use Rattle.laws.specs.Checks.{Check, firstOf, onlyWhere}
+use Rattle.octets.specs.declared.Data.{Data}
 use Rattle.codec.specs.declared.Header.{Header}
 use Rattle.codec.specs.declared.Message.{Message}
 use Rattle.codec.specs.declared.Message.the-variants.{Short, Plain, Fragment}
@@ -16,9 +17,10 @@ use Rattle.table.specs.declared.Attribute.{Attribute}
 use Rattle.table.specs.declared.Found.{Found}
 use Rattle.table.specs.declared.Found.the-variants.{At, Nothing}
 use Rattle.table.specs.Table.{readable, writable, searched, firstNetwork}
+use Rattle.join.specs.Work.{shapedBy}
 use Rattle.guest.specs.declared.Plan.{Plan}
 use Rattle.guest.specs.declared.Plan.the-variants.{Error, Read, Write, Join}
-use Rattle.guest.specs.Checks.{Setting, notForUs, inShort, shortWrite, takesState, frontChecks, notRequest, actionOrEvent, badShape, unknown, noAccess, wrongLength, wrongPiece, highNumber, soughtIn}
+use Rattle.guest.specs.Checks.{Setting, notForUs, inShort, shortWrite, takesState, frontChecks, notRequest, actionOrEvent, badShape, unknown, noAccess, wrongLength, wrongPiece, fragmentBytes, soughtIn}
 use Rattle.guest.specs.Step.{served}
 
 -- 1 to 6: those that put no frame
@@ -43,13 +45,9 @@ pointFor table h = cond (shortWrite h) (taking (firstNetwork table 0)) Nothing
 abbrev pub shapeChecks : Header → List Check
 shapeChecks h = (actionOrEvent h, 7) ∷ (badShape h, 8) ∷ []
 
--- checks 12 and 13, of a fragment
-abbrev pub pieceChecks : Message → List Check
-pieceChecks m = (wrongPiece m, 12) ∷ (highNumber m, 13) ∷ []
-
--- checks 9 to 13, of the attribute and the message
+-- 9 to 12, of the attribute and the message
 abbrev pub attributeChecks : Header → Message → Found → List Check
-attributeChecks h m found = (unknown found, 9) ∷ (noAccess h found, 10) ∷ (wrongLength h m found, 11) ∷ pieceChecks m
+attributeChecks h m found = (unknown found, 9) ∷ (noAccess h found, 10) ∷ (wrongLength h m found, 11) ∷ (wrongPiece m, 12) ∷ []
 
 -- refused with a number, or what comes after
 abbrev pub planBy : ℕ → ℕ → Plan → Plan
@@ -64,7 +62,7 @@ requestPlan table r =
 
 -- ---- the same as the code decides it: by the service, for every header, message and record
 
--- checks 8 to 10 of a Read: it has no data that 11 to 13 could look at
+-- checks 8 to 10 of a Read: it has no data that 11 and 12 could look at
 abbrev pub readFound : ℕ → Found → Plan
 readFound object Nothing = Error 9 object
 readFound object (At a) = cond (readable a) (Read a) (Error 10 object)
@@ -72,19 +70,22 @@ readFound object (At a) = cond (readable a) (Read a) (Error 10 object)
 unfoldable pub readPlan : Header → Found → Plan
 readPlan h found = cond (eqb (h .flag) 1 || not (eqb (h .dlc) 2)) (Error 8 (h .object)) (readFound (h .object) found)
 
--- and 11 to 13 of a Write; a message in short form is none, and check 5 has let none pass
+-- check 12 of a fragment
+unfoldable pub piecePlan : ℕ → Attribute → (number total : ℕ) → Data → Plan
+piecePlan object a number total b = cond (shapedBy fragmentBytes total number (b .len)) (Join a number total b) (Error 12 object)
+
+-- 11 and 12 of a Write; a message in short form is none, and check 5 has let none pass
 unfoldable pub bodyPlan : ℕ → Attribute → Message → Plan
 bodyPlan object a (Short dir address service) = Error 8 object
 bodyPlan object a (Plain u b) = cond (eqb (b .len) (a .len)) (Write a b) (Error 11 object)
-bodyPlan object a (Fragment u number total b) =
-    cond (eqb total (a .len)) (planBy (firstOf (pieceChecks (Fragment u number total b))) object (Join a number total b)) (Error 11 object)
+bodyPlan object a (Fragment u number total b) = cond (eqb total (a .len)) (piecePlan object a number total b) (Error 11 object)
 
--- 9 to 13 of a Write
+-- 9 to 12 of a Write
 unfoldable pub writePlan : ℕ → Message → Found → Plan
 writePlan object m Nothing = Error 9 object
 writePlan object m (At a) = cond (writable a) (bodyPlan object a m) (Error 10 object)
 
--- 8 to 13 of a Write: what the codec refuses has the flag, and neither number nor total
+-- 8 to 12 of a Write: what the codec refuses has the flag, and neither number nor total
 abbrev pub answered : ℕ → Found → Answer → Plan
 answered object found (Refused n) = Error 8 object
 answered object found (Got m) = writePlan object m found

@@ -1,9 +1,6 @@
-// Checks 7 to 13, in 01's order: what a Request asks for. No state is looked at.
+// Checks 7 to 12, in 01's order: what a Request asks for. No state is looked at.
 ghost use mathlib.Core.Path.{_≡_};
-ghost use Rattle.laws.specs.Checks.{firstOf};
-ghost use Rattle.codec.specs.declared.Message.the-variants.{Fragment};
-ghost use Rattle.codec.specs.declared.Subject.{Subject};
-ghost use Rattle.judge.specs.Code.{soughtBy, pieceChecks, planBy, bodyPlan, writePlan, readPlan, planByService};
+ghost use Rattle.judge.specs.Code.{soughtBy, piecePlan, bodyPlan, writePlan, readPlan, planByService};
 use codec::Answer;
 use codec::Header;
 use codec::Message;
@@ -12,15 +9,12 @@ use octets::Data;
 use table::Attribute;
 use table::Found;
 
-// Checks 12 and 13 of a fragment. (They do not look at its subject.)
+// Check 12 of a fragment.
 fn piece_plan(object: u8, to: Attribute, number: u8, total: u8, body: Data) -> Plan
-    ensures { λ r. ⌜ ((u : Subject) → r ≡ planBy (firstOf (pieceChecks (Fragment u number total body))) object (Plan.Join to number total body)) ⌝ }
+    ensures { λ r. ⌜ r ≡ piecePlan object to number total body ⌝ }
 {
     if !join::is_shaped(guest::FRAGMENT_BYTES, total, number, body.len) {
         return Plan::Error { number: 12, object };
-    }
-    if 63 < number {
-        return Plan::Error { number: 13, object };
     }
     Plan::Join {
         to,
@@ -30,7 +24,7 @@ fn piece_plan(object: u8, to: Attribute, number: u8, total: u8, body: Data) -> P
     }
 }
 
-// Checks 11 to 13 of a Write.
+// Checks 11 and 12 of a Write.
 fn body_plan(object: u8, a: Attribute, m: Message) -> Plan
     ensures { λ r. ⌜ r ≡ bodyPlan object a m ⌝ }
 {
@@ -60,7 +54,7 @@ fn body_plan(object: u8, a: Attribute, m: Message) -> Plan
     }
 }
 
-// Checks 9 to 13 of a Write.
+// Checks 9 to 12 of a Write.
 fn write_plan(table: &[u8], h: Header, m: Message) -> Plan
     ensures { λ r. ⌜ r ≡ writePlan (h .object) m (soughtBy (now (table .entry)) h) ⌝ }
 {
@@ -94,7 +88,7 @@ fn read_plan(table: &[u8], h: Header) -> Plan
     Plan::Error { number: 10, object }
 }
 
-// Checks 7 to 13: what a Request with this header asks for. Of one that passes checks 1 to 6 this is what 01's list gives (`request-planned`).
+// Checks 7 to 12: what a Request with this header asks for. Of one that passes checks 1 to 6 this is what 01's list gives (`request-planned`).
 pub fn request_plan(table: &[u8], h: Header, frame: &[u8]) -> Plan
     ensures { λ r. ⌜ r ≡ planByService (now (table .entry)) h (now (frame .entry)) ⌝ }
 {

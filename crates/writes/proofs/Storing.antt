@@ -17,6 +17,7 @@ use Rattle.table.specs.declared.Attribute.{Attribute}
 use Rattle.table.specs.Table.{endOf}
 use Rattle.join.specs.Work.{recordSize, base, last, kept, areaAfter}
 use Rattle.join.specs.Code.{keepFits, joinFits, joinedFrom}
+use Rattle.join.proofs.Joins.{number-most}
 use Rattle.join.proofs.Parts.{fit-keeps, fit-joins, joins-whole, put-mid}
 use Rattle.join.proofs.Places.{base-inside}
 use Rattle.guest.specs.Checks.{fragmentBytes, joiner, pieceOf}
@@ -90,8 +91,9 @@ module _ (a : Attribute) (number total : ℕ) (b : Data) (work : List ℕ) (r : 
   pub piece-kept : keptPiece a number total b work ≡ areaAfter joiner (base (a .object)) (pieceOf (a .id) number total b) kept work
   unfolding keptPiece
   piece-kept =
-      let next : number < 255 = omega (arith, r .fits .shaped .inside, r .fits .room) in
-      let fits = fit-keeps fragmentBytes (pieceOf (a .id) number total b) (r .fits) next (length work) (base (a .object)) room in
+      -- its number is at most 63, so that the next one is a byte
+      let highest = number-most fragmentBytes 63 total number _ (omega arith) (r .fits .room) (r .fits .shaped) in
+      let fits = fit-keeps fragmentBytes (pieceOf (a .id) number total b) (r .fits) (omega (arith, highest)) (length work) (base (a .object)) room in
       simp (le-leb (b .len) mostData (r .bytes), ← bytes-counted b (r .bytes), fits)
 
   -- a last fragment's message is as long as the attribute

@@ -3,7 +3,7 @@ use borrow.Author.Needs.{needs}
 use Rattle.device.proofs.applying.apply.Statement.{statement}
 use Rattle.device.proofs.applying.apply.Tie as tie
 
--- ---- refused with 7 to 13
+-- ---- refused with 7 to 12
 
 enum-known-plan : tie.Need-enum-known-plan
 enum-known-plan c = search needs

@@ -34,7 +34,7 @@ returns-4 c = rw (c .before .before .before .before .m .given .1) (simp (eq-eqb 
 
 returns-5 : tie.Need-returns-5
 unfolding bodyPlan
-returns-5 c = rw (c .before .before .before .before .m2 .given .1) (simp (eq-eqb _ _ (c .before .if2 .left)) (c .piece-plan .ensures (c .before .before .before .before .m2 .given .0 .0)))
+returns-5 c = rw (c .before .before .before .before .m2 .given .1) (simp (eq-eqb _ _ (c .before .if2 .left)) (c .piece-plan .ensures))
 
 pub body-plan-spec : {M : Type 1} → statement M
 body-plan-spec =
