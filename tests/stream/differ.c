@@ -193,7 +193,7 @@ int main(int argc, char **argv)
     if (!same_sizes() || !sizes_changed_as_asked())
         return 1;
     if (!all_came_up()) {
-        printf("a kind with 0 above never came up\n");
+        printf("a kind with 0 above never came up, or one came up that cannot\n");
         return 1;
     }
     printf("differ: %llu frames, no difference\n", asked.count);

@@ -168,7 +168,7 @@ int main(int argc, char **argv)
             return 1;
     int all = tally_print(tallies, TALLIES);
     if (!captures_came_up() || !all) {
-        printf("a kind with 0 above never came up\n");
+        printf("a kind with 0 above never came up, or one came up that cannot\n");
         return 1;
     }
     printf("differ_lines: %llu lines, %llu records, no difference\n", asked.count, asked.count / 2);

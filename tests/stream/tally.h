@@ -15,17 +15,18 @@ struct tally {
 #define TALLY(title, ...) {title, (const char *const[]){__VA_ARGS__}, sizeof((const char *const[]){__VA_ARGS__}) / sizeof(char *), \
                            (unsigned long long[sizeof((const char *const[]){__VA_ARGS__}) / sizeof(char *)]){0}}
 
-/* prints these rows; gives whether each kind came up */
+/* prints these rows; gives whether each kind came up, and nothing that cannot */
 static inline int tally_print(const struct tally *rows, unsigned count)
 {
     int all = 1;
     for (const struct tally *row = rows; row < rows + count; row++) {
         printf("%s:", row->title);
         for (unsigned place = 0; place < row->places; place++) {
-            if (!row->names[place])
-                continue;
-            printf("%s %s %llu", place ? "," : "", row->names[place], row->counts[place]);
-            all &= row->counts[place] != 0;
+            const char *name = row->names[place];
+            int came_up = row->counts[place] != 0;
+            all &= came_up == (name != 0);
+            if (name || came_up)
+                printf("%s %s %llu", place ? "," : "", name ? name : "WHAT CANNOT COME UP", row->counts[place]);
         }
         printf("\n");
     }
