@@ -1,6 +1,6 @@
 -- DEMAND 1. "Every frame record, object table, store and work area gets an answer, and every call ends. Each refusal is given exactly when its condition
 -- holds and no earlier one's does. Refusals 1 to 6 alter nothing, 7 to 12 only the ten bytes of one error frame, 14 also drops that object's half-built
--- message." (It read "7 to 13", of fourteen refusals, until 02, 2026-05.)
+-- message." (It read "7 to 13", and there were fourteen refusals, until 02, 2026-05.)
 -- Said of any device, for every record, address, table, store, work area and output, of any length and content. A device here is a function, so it answers
 -- every call; that the code is the function `stepOf` and ends is the contract of `step`.
 use Prim.Native.Nat.{ℕ, _≤_, _<_}
