@@ -34,6 +34,30 @@ static const char *const responses[] = {
     [SDS_WAIT] = "Wait",
 };
 
+/* 000, figure 3.48; it reserves the codes that have no name here */
+static const char *const error_codes[256] = {
+    [0] = "Service Not Available",
+    [1] = "Illegal Service Parameters",
+    [2] = "Read Only Variable",
+    [3] = "Illegal Data",
+    [4] = "EEPROM Read Error",
+    [5] = "Time Out",
+    [6] = "Unable to Respond",
+    [7] = "Embedded object unavailable",
+    [8] = "Illegal Object",
+    [9] = "Illegal DLC",
+    [11] = "Connection Not Available",
+    [12] = "Connection Denied",
+    [13] = "No Connection Response",
+    [14] = "Connection Previously Made",
+    [15] = "Connection Fail",
+    [21] = "Channel No. Not Available",
+    [22] = "Channel Open Fail",
+    [23] = "No Channel Response",
+    [254] = "ALP Service Timeout",
+    [255] = "Other Network",
+};
+
 #define BAD_FRAME "RTR, a DLC over 8, or address 126 or 127"
 #define UNREAD_SERVICE "DLC 1, or DLC 2 up with a service of 0 to 3"
 
@@ -74,6 +98,31 @@ int words_number(FILE *to, uint32_t number)
     return number == SDS_SERVED ? fprintf(to, "served") : fprintf(to, "refused %u: %s", number, refusals[number]);
 }
 
+bool words_says_why(const struct sds_message *m)
+{
+    return m->kind == SDS_KIND_WHOLE && m->response == SDS_ERROR && m->length == 1;
+}
+
+/* 000's name of a code; a code that is the number of its own refusal is not from that list */
+static int error_code(FILE *to, uint8_t code)
+{
+    const char *name = error_codes[code] != NULL ? error_codes[code] : "reserved";
+    bool own_number = code != SDS_SERVED && sds_error_code(code) == code;
+    return fprintf(to, "code %u (%s%s)", code, own_number ? "our own number; in the specification's list " : "", name);
+}
+
+int words_reason(FILE *to, const uint8_t record[SDS_RECORD])
+{
+    struct sds_message m;
+    int width = 0;
+    if (sds_message_read(record, &m) != SDS_SERVED || !words_says_why(&m) || m.data[0] == 0)    /* 0 is no refusal's code */
+        return width;
+    for (uint32_t number = 0; number < sizeof refusals / sizeof refusals[0]; number++)
+        if (sds_error_code(number) == m.data[0])
+            width += fprintf(to, "%s%u: %s", width > 0 ? ", or " : "  refused ", number, refusals[number]);
+    return width;
+}
+
 static int unreadable(FILE *to, const uint8_t record[SDS_RECORD], uint32_t number)
 {
     int width = fprintf(to, "unreadable");
@@ -95,6 +144,8 @@ int words_record(FILE *to, const uint8_t record[SDS_RECORD])
     width += fprintf(to, "%-6s  %-10s  object %-2u  %-9s %u", long_services[m.service], responses[m.response], m.object, long_ids[m.service], m.id);
     if (m.kind == SDS_KIND_FRAGMENT || m.length > 0)
         width += fprintf(to, "%*s", WORDS_COLUMN - width, "");
+    if (words_says_why(&m))
+        return width + error_code(to, m.data[0]);
     if (m.kind == SDS_KIND_FRAGMENT)
         width += fprintf(to, "fragment %-3u of %-3u bytes%s", m.number, m.total, m.length > 0 ? "  " : "");
     if (m.length > 0)

@@ -65,8 +65,8 @@ extern "C" {
  * The number of a reply. The first whose condition holds is given; 6 to 14 do not apply to the short form.
  *
  * There are thirteen refusals, 1 to 12 and 14: no call answers 13, and that number is not used again. 1 to 6 alter nothing at all. 7 to 12 put one
- * error frame at the front of the output and alter nothing else. 14 does that too, and drops what was joined so far for that object. With 0 there are
- * 0 to SDS_FRAMES frames; the output beyond them stays as it was.
+ * error frame at the front of the output and alter nothing else. 14 does that too, and drops what was joined so far for that object. An error frame says
+ * why in its one byte of data (sds_error_code). With 0 there are 0 to SDS_FRAMES frames; the output beyond them stays as it was.
  */
 enum sds_number {
     SDS_SERVED = 0,
@@ -96,6 +96,13 @@ enum sds_number {
 uint32_t sds_step(const uint8_t *record, uint64_t record_len, uint32_t address,
                   const uint8_t *table, uint64_t table_len, uint8_t *store, uint64_t store_len,
                   uint8_t *work, uint64_t work_len, uint8_t *out, uint64_t out_len);
+
+/*
+ * The byte of data of the error frame that is put with this number: the code of the specification's list (figure 3.48) that names the same fault, where one
+ * does, otherwise the number itself. Some refusals share a code. 0, which is no refusal's code, where no error frame is put with this number. Earlier
+ * versions put error frames of DLC 2, without data. docs/ERRORS.md says in plain words what each code means.
+ */
+uint32_t sds_error_code(uint32_t number);
 
 /* What a device lends to each of its calls, and sds_step by it. */
 struct sds_table {

@@ -3,11 +3,11 @@
 #include "counting.h"
 
 typedef uint32_t known_function(uint32_t);
-known_function empty_size, straight_10, loop_22;
+known_function empty_number, straight_10, loop_22;
 
 static uint32_t call_known(enum side side, const void *row)
 {
-    static known_function *const known[SIDES] = {empty_size, straight_10, loop_22};
+    static known_function *const known[SIDES] = {empty_number, straight_10, loop_22};
     known_function *function = known[side];
     (void)row;
     mark_begin();

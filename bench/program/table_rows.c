@@ -1,31 +1,36 @@
-/* sds_table_check over tables of several sizes and contents, and sds_descriptor_size by type. */
+/* sds_table_check over tables of several sizes and contents; sds_descriptor_size by type, and sds_error_code. */
 #include <stdio.h>
 #include "counting.h"
 #include "reference.h"
 #include "tables.h"
 
 typedef uint32_t check_function(const uint8_t *table, uint64_t table_len, uint64_t store_len);
-typedef uint32_t size_function(uint32_t descriptor);
+typedef uint32_t number_function(uint32_t number);
 check_function empty_check;
-size_function empty_size;
+number_function empty_number;
 static check_function *const checks[SIDES] = {empty_check, sds_table_check, ref_table_check};
-static size_function *const sizes[SIDES] = {empty_size, sds_descriptor_size, ref_descriptor_size};
+static number_function *const sizes[SIDES] = {empty_number, sds_descriptor_size, ref_descriptor_size};
+static number_function *const codes[SIDES] = {empty_number, sds_error_code, ref_error_code};
 
-struct size_row {
-    const char *name;
-    uint32_t descriptor;
-    uint32_t size;
+struct number_row {
+    const char *function, *name;
+    number_function *const *sides;
+    uint32_t number, reply;
 };
 
-static const struct size_row size_rows[] = {
-    {"Boolean, size undefined", 0x0100, 1},
-    {"Boolean, a word", 0x014F, 2},
-    {"integer, a word", 0x0040, 2},
-    {"Real", 0x0660, 4},
-    {"32 characters", 0x073F, 32},
-    {"32 extended characters", 0x055F, 64},
-    {"refused, type 2", 0x0200, 0},
-    {"refused, over 65,535", 0x10100, 0},
+static const struct number_row number_rows[] = {
+    {"sds_descriptor_size", "Boolean, size undefined", sizes, 0x0100, 1},
+    {"sds_descriptor_size", "Boolean, a word", sizes, 0x014F, 2},
+    {"sds_descriptor_size", "integer, a word", sizes, 0x0040, 2},
+    {"sds_descriptor_size", "Real", sizes, 0x0660, 4},
+    {"sds_descriptor_size", "32 characters", sizes, 0x073F, 32},
+    {"sds_descriptor_size", "32 extended characters", sizes, 0x055F, 64},
+    {"sds_descriptor_size", "refused, type 2", sizes, 0x0200, 0},
+    {"sds_descriptor_size", "refused, over 65,535", sizes, 0x10100, 0},
+    {"sds_error_code", "7", codes, 7, 1},
+    {"sds_error_code", "12", codes, 12, 9},
+    {"sds_error_code", "14", codes, 14, 14},
+    {"sds_error_code", "6, which has none", codes, 6, 0},
 };
 
 static uint32_t call_check(enum side side, const void *row)
@@ -39,12 +44,12 @@ static uint32_t call_check(enum side side, const void *row)
     return reply;
 }
 
-static uint32_t call_size(enum side side, const void *row)
+static uint32_t call_number(enum side side, const void *row)
 {
-    const struct size_row *call = row;
-    size_function *size = sizes[side];
+    const struct number_row *call = row;
+    number_function *function = call->sides[side];
     mark_begin();
-    uint32_t reply = size(call->descriptor);
+    uint32_t reply = function(call->number);
     mark_end();
     return reply;
 }
@@ -65,6 +70,6 @@ void table_rows(void)
         count_check("mixed records", MIXED, lengths[i]);
     count_check("plain records", ALL_PLAIN, SDS_ATTRIBUTES);
     count_check("Boolean records", ALL_BOOLEAN, SDS_ATTRIBUTES);
-    for (unsigned i = 0; i < sizeof size_rows / sizeof size_rows[0]; i++)
-        count_row("sds_descriptor_size", size_rows[i].name, "-", call_size, &size_rows[i], size_rows[i].size);
+    for (unsigned i = 0; i < sizeof number_rows / sizeof number_rows[0]; i++)
+        count_row(number_rows[i].function, number_rows[i].name, "-", call_number, &number_rows[i], number_rows[i].reply);
 }

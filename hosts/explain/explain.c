@@ -13,9 +13,10 @@ static const char help[] =
     "Prints each Smart Distributed System frame, a record of %d bytes (see sds.h), as\n"
     "a line of words, as it arrives; from standard input where no file is named.\n"
     "\n"
-    "An Error frame does not say why. With the table and the address of a device,\n"
+    "An Error frame is followed by what its code stands for; where several refusals\n"
+    "share a code, by all of them. With the table and the address of a device,\n"
     "requests to it are played into a device of the same table, and each answer of\n"
-    "it is followed by what that one says of the request.\n"
+    "it is followed by what that one says of the request, so by the exact refusal.\n"
     "\n"
     "Status 1 says that records ended in the middle of one, 2 an error in what was\n"
     "given.\n";
@@ -89,17 +90,32 @@ static bool answers(const struct sds_message *answer, const struct request *requ
            answer->service == due->service && answer->object == due->object && answer->id == due->id;
 }
 
-/* A guest answers in order: a request that is older than the one answered will not be answered any more. */
-static void explain_answer(const struct sds_message *answer)
+/* The request that is answered, the oldest that may be; waiting_count where none was seen. */
+static size_t request_for(const struct sds_message *answer)
 {
     size_t i = 0;
     while (i < waiting_count && !answers(answer, &waiting[i]))
         i++;
+    return i;
+}
+
+/* Whether the device says what the table says: an Error or none, and of an Error that says why the code. */
+static bool agrees(const struct sds_message *answer, uint32_t number)
+{
+    bool error = answer->response == SDS_ERROR;
+    if (error != (number != SDS_SERVED))
+        return false;
+    return !words_says_why(answer) || answer->data[0] == sds_error_code(number);
+}
+
+/* A guest answers in order: a request that is older than the one answered will not be answered any more. */
+static void explain_answer(const struct sds_message *answer, size_t i)
+{
     if (i == waiting_count) {
         printf("no request for it was seen");
         return;
     }
-    if ((answer->response == SDS_ERROR) != (waiting[i].number != SDS_SERVED))
+    if (!agrees(answer, waiting[i].number))
         printf("but by the table ");
     words_number(stdout, waiting[i].number);
     forget(--waiting[i].frames == 0 ? i + 1 : i);
@@ -117,9 +133,13 @@ static void explain(const uint8_t record[SDS_RECORD])
     int width = words_record(stdout, record);
     if (follows)
         play(record);
-    if (follows && is_answer_of_device(record, &message)) {
+    bool answer = follows && is_answer_of_device(record, &message);
+    size_t request = answer ? request_for(&message) : waiting_count;
+    if (request == waiting_count)    /* the code is all that tells why */
+        width += words_reason(stdout, record);
+    if (answer) {
         printf("%*s", width < WORDS_COLUMN ? WORDS_COLUMN - width : 2, "");
-        explain_answer(&message);
+        explain_answer(&message, request);
     }
     putchar('\n');
 }

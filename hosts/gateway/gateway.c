@@ -162,7 +162,18 @@ static void send_answer(int link, const uint8_t record[SDS_RECORD])
     }
 }
 
-static void trace_record(const uint8_t record[SDS_RECORD])
+/* A frame from the link; of an Error the code is all that tells why. */
+static void trace_heard(const uint8_t record[SDS_RECORD])
+{
+    if (!trace)
+        return;
+    words_record(stdout, record);
+    words_reason(stdout, record);
+    putchar('\n');
+}
+
+/* A frame of ours: why it is an Error, trace_reply has told. */
+static void trace_answer(const uint8_t record[SDS_RECORD])
 {
     if (!trace)
         return;
@@ -183,13 +194,13 @@ static void trace_reply(uint32_t reply)
 
 static void serve_record(int link, const uint8_t record[SDS_RECORD])
 {
-    trace_record(record);
+    trace_heard(record);
     uint32_t reply = device_step(&device, record);
     device_save(&device);
     trace_reply(reply);
     const uint8_t *answer = device.out;
     for (uint32_t left = SDS_COUNT(reply); left > 0; left--, answer += SDS_RECORD) {
-        trace_record(answer);
+        trace_answer(answer);
         send_answer(link, answer);
     }
 }

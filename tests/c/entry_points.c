@@ -1,5 +1,5 @@
 /*
- * Calls all five entry points of the device's archive and checks the cases that the scope page marks P, with every byte of every lent buffer. Then what
+ * Calls all six entry points of the device's archive and checks the cases that the scope page marks P, with every byte of every lent buffer. Then what
  * the headers add to them: structs, and records of CAN frames. Then the two of the host's archive, of captures.
  */
 #include <stdio.h>
@@ -21,41 +21,39 @@ static void check(const char *name, int holds)
     failed |= !holds;
 }
 
-/* the record, its number, and the error or success frame that answers it (response 0: none) */
-static void step(const char *name, uint32_t number, uint8_t response, const uint8_t record[SDS_RECORD])
+#define RECORD(...) ((const uint8_t[SDS_RECORD]){__VA_ARGS__})
+
+/* the record, its number, and the frame that answers it, if one does */
+static void step(const char *name, const uint8_t record[SDS_RECORD], uint32_t number, const uint8_t frame[SDS_RECORD])
 {
-    uint32_t count = response != 0;
-    if (count) {
-        const uint8_t frame[SDS_RECORD] = {0x89, 0x82, (uint8_t)(response << 6 | (record[2] & 31)), record[3]};
-        memcpy(out_is, frame, sizeof frame);
-    }
+    uint32_t count = frame != NULL;
+    if (count)
+        memcpy(out_is, frame, SDS_RECORD);
     const struct sds_device device = {9, {table, sizeof table}, {store, sizeof store}, {work, sizeof work}, {out, sizeof out}};
     uint32_t reply = sds_device_step(&device, record, SDS_RECORD);
     check(name, SDS_NUMBER(reply) == number && SDS_COUNT(reply) == count && !memcmp(store, store_is, sizeof store) &&
                     !memcmp(work, work_is, sizeof work) && !memcmp(out, out_is, sizeof out));
 }
 
-#define RECORD(...) ((const uint8_t[SDS_RECORD]){__VA_ARGS__})
-
 static void steps(void)
 {
     store_is[33] = 0x2C, store_is[34] = 0x01;
-    step("P1", 0, 1, RECORD(0x09, 0x84, 3, 10, 0x2C, 0x01));
-    step("P2", 11, 2, RECORD(0x09, 0x83, 3, 10, 0x2C));
-    step("P3", 3, 0, RECORD(0x09, 0x89, 3, 10, 0x2C, 0x01));
-    step("P4, address 10", 4, 0, RECORD(0x0A, 0x84, 3, 10, 0x2C, 0x01));
-    step("P4, address 126", 3, 0, RECORD(0x7E, 0x84, 3, 10, 0x2C, 0x01));
-    step("P5, DLC 0", 5, 0, RECORD(0x09, 0x80));
-    step("P5, DLC 1", 5, 0, RECORD(0x09, 0x81));
-    step("P6", 10, 2, RECORD(0x09, 0x83, 2, 18, 1));
-    step("P7", 9, 2, RECORD(0x09, 0x83, 2, 19, 1));
-    step("P9", 12, 2, RECORD(0x09, 0x87, 0x22, 56, 7, 32, 1, 2, 3));
-    step("P10", 12, 2, RECORD(0x09, 0x88, 0x22, 56, 8, 32, 1, 2, 3, 4));
-    step("P11", 11, 2, RECORD(0x09, 0x88, 0x22, 56, 0, 31, 1, 2, 3, 4));
+    step("P1", RECORD(0x09, 0x84, 3, 10, 0x2C, 0x01), 0, RECORD(0x89, 0x82, 0x43, 10));
+    step("P2", RECORD(0x09, 0x83, 3, 10, 0x2C), 11, RECORD(0x89, 0x83, 0x83, 10, 9));
+    step("P3", RECORD(0x09, 0x89, 3, 10, 0x2C, 0x01), 3, NULL);
+    step("P4, address 10", RECORD(0x0A, 0x84, 3, 10, 0x2C, 0x01), 4, NULL);
+    step("P4, address 126", RECORD(0x7E, 0x84, 3, 10, 0x2C, 0x01), 3, NULL);
+    step("P5, DLC 0", RECORD(0x09, 0x80), 5, NULL);
+    step("P5, DLC 1", RECORD(0x09, 0x81), 5, NULL);
+    step("P6", RECORD(0x09, 0x83, 2, 18, 1), 10, RECORD(0x89, 0x83, 0x82, 18, 2));
+    step("P7", RECORD(0x09, 0x83, 2, 19, 1), 9, RECORD(0x89, 0x83, 0x82, 19, 1));
+    step("P9", RECORD(0x09, 0x87, 0x22, 56, 7, 32, 1, 2, 3), 12, RECORD(0x89, 0x83, 0x82, 56, 9));
+    step("P10", RECORD(0x09, 0x88, 0x22, 56, 8, 32, 1, 2, 3, 4), 12, RECORD(0x89, 0x83, 0x82, 56, 9));
+    step("P11", RECORD(0x09, 0x88, 0x22, 56, 0, 31, 1, 2, 3, 4), 11, RECORD(0x89, 0x83, 0x82, 56, 9));
     memcpy(work_is + 2 * SDS_WORK_RECORD, (const uint8_t[]){1, 56, 32, 1, 'A', 'B', 'C', 'D'}, 8);
-    step("P8, number 0", 0, 0, RECORD(0x09, 0x88, 0x22, 56, 0, 32, 'A', 'B', 'C', 'D'));
+    step("P8, number 0", RECORD(0x09, 0x88, 0x22, 56, 0, 32, 'A', 'B', 'C', 'D'), 0, NULL);
     work_is[2 * SDS_WORK_RECORD] = 0;
-    step("P8, number 2", 14, 2, RECORD(0x09, 0x88, 0x22, 56, 2, 32, 'E', 'F', 'G', 'H'));
+    step("P8, number 2", RECORD(0x09, 0x88, 0x22, 56, 2, 32, 'E', 'F', 'G', 'H'), 14, RECORD(0x89, 0x83, 0x82, 56, 14));
 }
 
 static void sizes(void)
@@ -65,6 +63,16 @@ static void sizes(void)
     for (unsigned i = 0; i < sizeof rows / sizeof rows[0]; i++)
         holds &= sds_descriptor_size(rows[i][0]) == rows[i][1];
     check("P12", holds);
+}
+
+/* 02, 2026-06: the pairs, and numbers that have no error frame */
+static void codes(void)
+{
+    static const uint32_t rows[][2] = {{7, 1}, {8, 9}, {9, 1}, {10, 2}, {11, 9}, {12, 9}, {14, 14}, {0, 0}, {1, 0}, {6, 0}, {13, 0}, {15, 0}, {256 + 7, 0}};
+    int holds = 1;
+    for (unsigned i = 0; i < sizeof rows / sizeof rows[0]; i++)
+        holds &= sds_error_code(rows[i][0]) == rows[i][1];
+    check("error codes", holds);
 }
 
 static void messages(void)
@@ -173,6 +181,7 @@ int main(void)
                        sds_table_check(table, sizeof table, STORE - 1) == 2);
     steps();
     sizes();
+    codes();
     messages();
     fields();
     short_services();

@@ -122,6 +122,7 @@ int LLVMFuzzerTestOneInput(const uint8_t *input, size_t size)
             "the result of sds_table_check");
     uint32_t descriptor = input[4] | (uint32_t)input[5] << 8;
     must_be(sds_descriptor_size(descriptor) == ref_descriptor_size(descriptor), "the result of sds_descriptor_size");
+    must_be(sds_error_code(descriptor) == ref_error_code(descriptor), "the result of sds_error_code");
     converse(input[0] == 255 ? 265 : input[0], input, input + at, size - at);
     return 0;
 }

@@ -6,6 +6,7 @@ import errno
 import itertools
 import os
 import random
+import re
 import shutil
 import signal
 import socket
@@ -72,8 +73,12 @@ def reads_back(device, store=None):
     gateway.hang_up()
 
 
-def error(service, obj, attribute):
-    return NINE.answer(service, ERROR, obj, attribute)
+# the codes of an Error frame (02, 2026-06): 000's, figure 3.48, and one of our own
+NO_PARAMETERS, READ_ONLY, BAD_DLC, OUT_OF_ORDER = 1, 2, 9, 14
+
+
+def error(service, obj, attribute, code):
+    return NINE.refused(service, obj, attribute, code)
 
 
 # 1: the sample device
@@ -106,21 +111,21 @@ def cases_of_the_scope_page():
     tag = NINE.fragments(2, 56, NORTH)
     cases = [  # the record, the number of its reply, and the frames that answer it
         ("P1", NINE.write(3, 10, b"\x2C\x01"), 0, [record(0x89, 0x82, 0x43, 0x0A)]),
-        ("P2", NINE.write(3, 10, b"\x2C"), 11, [record(0x89, 0x82, 0x83, 0x0A)]),
+        ("P2", NINE.write(3, 10, b"\x2C"), 11, [record(0x89, 0x83, 0x83, 0x0A, 0x09)]),
         ("P3", record(9, 0x89, 3, 10, 0x2C, 1), 3, []),
         ("P4, address 10", Host(10).write(3, 10, b"\x2C\x01"), 4, []),
         ("P4, address 126", Host(126).write(3, 10, b"\x2C\x01"), 3, []),
         ("sent by a guest", NINE.answer(WRITE, 0, 3, 10), 4, []),
         ("P5, DLC 0", record(9, 0x80), 5, []),
         ("P5, DLC 1", record(9, 0x81), 5, []),
-        ("P6", NINE.write(2, 18, b"\1"), 10, [record(0x89, 0x82, 0x82, 0x12)]),
-        ("P7", NINE.write(2, 19, b"\1"), 9, [record(0x89, 0x82, 0x82, 0x13)]),
+        ("P6", NINE.write(2, 18, b"\1"), 10, [record(0x89, 0x83, 0x82, 0x12, 0x02)]),
+        ("P7", NINE.write(2, 19, b"\1"), 9, [record(0x89, 0x83, 0x82, 0x13, 0x01)]),
         ("P8, number 0", tag[0], 0, []),
-        ("P8, number 2", tag[2], 14, [record(0x89, 0x82, 0x82, 0x38)]),
-        ("P8, dropped", tag[1], 14, [record(0x89, 0x82, 0x82, 0x38)]),
-        ("P9", record(9, 0x87, 0x22, 56, 7, 32, *b"ABC"), 12, [record(0x89, 0x82, 0x82, 0x38)]),
-        ("P10", record(9, 0x88, 0x22, 56, 8, 32, *b"ABCD"), 12, [record(0x89, 0x82, 0x82, 0x38)]),
-        ("P11", record(9, 0x88, 0x22, 56, 0, 31, *b"ABCD"), 11, [record(0x89, 0x82, 0x82, 0x38)]),
+        ("P8, number 2", tag[2], 14, [record(0x89, 0x83, 0x82, 0x38, 0x0E)]),
+        ("P8, dropped", tag[1], 14, [record(0x89, 0x83, 0x82, 0x38, 0x0E)]),
+        ("P9", record(9, 0x87, 0x22, 56, 7, 32, *b"ABC"), 12, [record(0x89, 0x83, 0x82, 0x38, 0x09)]),
+        ("P10", record(9, 0x88, 0x22, 56, 8, 32, *b"ABCD"), 12, [record(0x89, 0x83, 0x82, 0x38, 0x09)]),
+        ("P11", record(9, 0x88, 0x22, 56, 0, 31, *b"ABCD"), 11, [record(0x89, 0x83, 0x82, 0x38, 0x09)]),
     ]
     device = Device()
     gateway = Gateway(device, "--trace")
@@ -171,7 +176,7 @@ def a_block_of_24_points():
     expect("the new store", device.stored(), bytes(11))
     gateway.peer.converse(
         (NINE.write(1, 18, b"\x0F\xF0\x3C"), [record(0x89, 0x82, 0x41, 0x12)]),
-        (NINE.write(1, 18, b"\x0F\xF0\x3C\x00"), [record(0x89, 0x82, 0x81, 0x12)]),
+        (NINE.write(1, 18, b"\x0F\xF0\x3C\x00"), [record(0x89, 0x83, 0x81, 0x12, 0x09)]),
         (NINE.fragments(1, 56, b"INPUTS A")[0], []), (NINE.fragments(1, 56, b"INPUTS A")[1], [NINE.wrote(1, 56)]),
         (NINE.read(1, 18), [record(0x89, 0xA5, 0x41, 0x12, 0x0F, 0xF0, 0x3C)]))
     gateway.hang_up()
@@ -238,7 +243,7 @@ def no_point_to_write():
     ]:
         device = Device(bytes.fromhex(table), b"\xA5" * length, EYE.address)
         gateway = Gateway(device, "--trace")
-        gateway.peer.converse(*[(EYE.short(service), []) for service in range(8)], (EYE.read(9, 9), [EYE.answer(READ, ERROR, 9, 9)]))
+        gateway.peer.converse(*[(EYE.short(service), []) for service in range(8)], (EYE.read(9, 9), [EYE.refused(READ, 9, 9, NO_PARAMETERS)]))
         numbers = [line.split(":")[0] for line in gateway.hang_up().splitlines() if line.startswith("  ")]
         expect(f"the replies with table {table}", numbers, ["  refused 5"] * 8 + ["  refused 9"])
         expect("the store", device.stored(), b"\xA5" * length)
@@ -298,7 +303,7 @@ def restarted():
     gateway.kill()
     device.put(device.store + ".new", b"left from a crash")
     gateway = Gateway(device)
-    gateway.peer.converse((tag[7], [error(WRITE, 2, 56)]), (NINE.write(3, 10, b"\1\2"), [NINE.wrote(3, 10)]))
+    gateway.peer.converse((tag[7], [error(WRITE, 2, 56, OUT_OF_ORDER)]), (NINE.write(3, 10, b"\1\2"), [NINE.wrote(3, 10)]))
     gateway.hang_up()
     expect("the store", device.stored(), bytes(33) + b"\1\2" + bytes(32))
     expect("its folder", sorted(os.listdir(device.folder)), ["store", "table"])
@@ -604,15 +609,16 @@ def talk():
     return [
         (NINE.write(3, 10, b"\x2C\x01"), [NINE.wrote(3, 10)]),
         (NINE.read(3, 10), NINE.value(3, 10, b"\x2C\x01")),
-        (NINE.write(3, 10, b"\x2C"), [error(WRITE, 3, 10)]),
-        (NINE.write(2, 18, b"\1"), [error(WRITE, 2, 18)]),
-        (NINE.read(2, 118), [error(READ, 2, 118)]),
-        (flagged, [error(READ, 2, 56)]),
-        (action, [error(ACTION, 3, 1)]),
+        (NINE.write(3, 10, b"\x2C"), [error(WRITE, 3, 10, BAD_DLC)]),
+        (NINE.write(2, 18, b"\1"), [error(WRITE, 2, 18, READ_ONLY)]),
+        (NINE.read(2, 118), [error(READ, 2, 118, NO_PARAMETERS)]),
+        (flagged, [error(READ, 2, 56, BAD_DLC)]),
+        (action, [error(ACTION, 3, 1, NO_PARAMETERS)]),
         (NINE.short(WRITE_ON), []),
         (Host(10).read(3, 10), []),
+        (Host(10).refused(READ, 3, 10, NO_PARAMETERS), []),
         (tag[0], []),
-        (tag[2], [error(WRITE, 2, 56)]),
+        (tag[2], [error(WRITE, 2, 56, OUT_OF_ORDER)]),
         (NINE.read(2, 56), NINE.value(2, 56, bytes(32))),
     ]
 
@@ -636,8 +642,10 @@ def explain_answers():
     device = Device()
     options = "--table", device.table, "--address", "9"
     frames = [frame for rec, answers in talk() for frame in (rec, *answers)]
-    strange = [NINE.wrote(3, 10), NINE.read(3, 10), error(READ, 3, 10)]  # an answer to nothing, and one that the table does not give
-    late = [NINE.write(3, 10, b"\1"), NINE.write(3, 10, b"\1\2"), error(WRITE, 3, 10), NINE.wrote(3, 10)]  # both requests, both answers
+    strange = [NINE.wrote(3, 10), NINE.read(3, 10), error(READ, 3, 10, NO_PARAMETERS),  # an answer to nothing, and one that the table does not give
+               error(READ, 3, 10, NO_PARAMETERS),  # an Error to nothing
+               NINE.read(3, 11), error(READ, 3, 11, 8), NINE.read(3, 11), NINE.answer(READ, ERROR, 3, 11)]  # another code than the table's, and none
+    late = [NINE.write(3, 10, b"\1"), NINE.write(3, 10, b"\1\2"), error(WRITE, 3, 10, BAD_DLC), NINE.wrote(3, 10)]  # both requests, both answers
     lost = [NINE.write(3, 10, b"\1"), NINE.read(2, 10), NINE.read(3, 11), NINE.read(3, 10), *NINE.value(3, 10, b"\1\2")]  # only one answer
     untrue = [NINE.short_answer(WRITE_OFF_ACK), NINE.short(WRITE_OFF), NINE.short_answer(WRITE_OFF_ACK)]  # what the table does not serve
     event = [NINE.answer(EVENT, 0, 3, 1), NINE.short_answer(CHANGE_ON)]  # no answers: the device begins
@@ -645,10 +653,25 @@ def explain_answers():
     expect("answers explained", seen, kept("explain.txt").splitlines())
 
 
+def explain_codes():
+    """an Error says why by itself: what shares a code, what our devices do not send; no Error, no byte, two bytes or the flag, and it says nothing"""
+    errors = [error(READ, 3, 10, code) for code in (0, NO_PARAMETERS, READ_ONLY, 3, BAD_DLC, 10, OUT_OF_ORDER, 255)]
+    others = [NINE.answer(READ, ERROR, 3, 10), record(0x89, 0xA3, 0x43, 10, 9), record(0x89, 0xA4, 0x83, 10, 9, 9), record(0x89, 0xA5, 0xA3, 10, 0, 9, 9)]
+    expect("codes in words", explained(b"".join(errors + others)).splitlines(), kept("codes.txt").splitlines())
+
+
+def codes_for_fitters():
+    """docs/ERRORS.md has a row for each code that some refusal has, with all of its refusals, and no other row"""
+    rows = re.findall(r"^\| (\d+) \|.*\| ([\d, ]+) \|$", content("docs/ERRORS.md").decode(), re.MULTILINE)
+    lines = explained(b"".join(error(READ, 3, 10, code) for code in range(256))).splitlines()
+    said = [(str(code), ", ".join(re.findall(r"(?:refused|, or) (\d+): ", line))) for code, line in enumerate(lines)]
+    expect("the codes in words", rows, [(code, numbers) for code, numbers in said if numbers])
+
+
 def explain_short_answers():
     """behind the capture, what is no answer or none to what was asked"""
     on, off, on_ack, off_ack = ON[0], OFF[0], ON[1][0], OFF[1][0]
-    action, refused = record(36, 0xC2), EYE.answer(ACTION, ERROR, 0, 0)  # of object 0, action 0: service 6, as the short form's Write OFF ACK
+    action, refused = record(36, 0xC2), EYE.refused(ACTION, 0, 0, NO_PARAMETERS)  # of object 0, action 0: service 6, as the short form's Write OFF ACK
     rest = [on_ack, on, on, on_ack, on_ack, on_ack,  # asked for twice and acknowledged four times
             on, off, off_ack, on_ack,  # the second is answered, so the first is not any more
             action, off_ack, refused, off, refused, off_ack,
@@ -725,7 +748,7 @@ def main():
                  unix_peers, unix_path_taken, peer_that_leaves_early, peer_that_reads_late, full_queue, broken_link,
                  stopped_while_frames_keep_coming, stopped_while_a_peer_takes_nothing,
                  bad_tables, bad_options, odd_frames,
-                 trace, explain_a_capture, explain_answers, explain_short_answers, explain_a_live_pipe, explain_errors,
+                 trace, explain_a_capture, explain_answers, explain_codes, codes_for_fitters, explain_short_answers, explain_a_live_pipe, explain_errors,
                  vcan]:
         name = test.__name__.replace("_", " ") + (f" (seed {seed})" if test is killed_at_random_moments else "")
         try:

@@ -83,6 +83,10 @@ class Host:
     def answer(self, service, response, obj, attribute):
         return record(128 | self.address, service << 5 | 2, response << 6 | obj, attribute)
 
+    def refused(self, service, obj, attribute, code):
+        """an Error that says why (02, 2026-06)"""
+        return record(128 | self.address, service << 5 | 3, ERROR << 6 | obj, attribute, code)
+
     def wrote(self, obj, attribute):
         return self.answer(WRITE, SUCCESSFUL, obj, attribute)
 

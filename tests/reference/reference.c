@@ -1,7 +1,7 @@
 /*
  * SDS guest core, reference in C11. 01 is the scope page, 02 the requests for changes, 000 the application layer, 001 the component models. It is
- * written from these papers and shares nothing with the core, but for one decision where they leave a choice: Unsigned is type 4 (docs/DECISIONS.md).
- * It is the plain C of the benchmark too, so its branches stand where they cost least.
+ * written from these papers and shares nothing with the core, but for two decisions where they leave a choice: Unsigned is type 4, and which code of 000
+ * names the fault of a refusal (docs/DECISIONS.md). It is the plain C of the benchmark too, so its branches stand where they cost least.
  */
 #include "reference.h"
 
@@ -22,6 +22,10 @@ enum { WHOLE_DATA_MAX = 6, FRAGMENT_DATA_MAX = 4 };
 /* 000, figure 3.6: the long services that are read; figure 3.8: Request/Response */
 enum { WRITE = 4, READ = 5, ACTION = 6, EVENT = 7 };
 enum { REQUEST, SUCCESSFUL, ERROR };
+
+/* 000, figure 3.48: the error codes that name a fault of ours; 3.2.2.1.4.1.1: "data type is Unsigned 8", the bytes of one */
+enum { ILLEGAL_SERVICE_PARAMETERS = 1, READ_ONLY_VARIABLE = 2, ILLEGAL_DLC = 9 };
+enum { ERROR_CODE_SIZE = 1 };
 
 /* 000, figure 3.4: the services of the short form; 02, 2026-01: the object that a short Write is for, and what it "sets [...] to 1 or 0" */
 enum { COS_OFF, COS_ON, COS_OFF_ACK, COS_ON_ACK, WRITE_OFF, WRITE_ON, WRITE_OFF_ACK, WRITE_ON_ACK };
@@ -300,6 +304,26 @@ static void put_header(uint8_t *restrict out, const uint8_t *restrict request, u
     memset(out + FRAME_DATA, 0, RECORD_SIZE - FRAME_DATA);
 }
 
+/* 02, 2026-06: "The pairs are one table, and every refusal from 7 on has exactly one entry"; the other numbers have 0, which is no code of ours */
+static const uint8_t error_codes[] = {
+    [REF_ACTION_OR_EVENT] = ILLEGAL_SERVICE_PARAMETERS, /* figure 3.48 has code 0, Service Not Available, for services 0 to 3 alone */
+    [REF_BAD_FORM] = ILLEGAL_DLC,
+    [REF_NO_ATTRIBUTE] = ILLEGAL_SERVICE_PARAMETERS,
+    [REF_NO_ACCESS] = READ_ONLY_VARIABLE, /* a Read of what may only be written has it too: one entry */
+    [REF_WRONG_LENGTH] = ILLEGAL_DLC,
+    [REF_BAD_FRAGMENT] = ILLEGAL_DLC,
+    [REF_OUT_OF_SEQUENCE] = REF_OUT_OF_SEQUENCE, /* no code names the fault: "otherwise our refusal number" */
+};
+
+/* 02, 2026-06 */
+uint32_t ref_error_code(uint32_t number) { return number < sizeof error_codes ? error_codes[number] : 0; }
+
+/* 02, 2026-06: "Error frames get DLC 3 and one data byte", behind the ID (000, figure 3.9); only for a refusal from 7 on */
+static void put_error(uint8_t *restrict out, const uint8_t *restrict request, uint32_t refusal) {
+    put_header(out, request, ERROR, 0, WHOLE_HEAD + ERROR_CODE_SIZE);
+    out[FRAME_DATA] = error_codes[refusal];
+}
+
 /* 000, figure 3.15: one fragment of a Read's answer */
 static void put_fragment(uint8_t *restrict out, const uint8_t *restrict request, uint32_t number, uint32_t total,
                          const uint8_t *restrict data, uint32_t size) {
@@ -367,7 +391,7 @@ static uint32_t answer(const uint8_t *request, const uint8_t *table, uint32_t ta
         return REF_PER_FRAME * serve(out, request, join, store + low_first(entry + ENTRY_OFFSET), entry[ENTRY_LENGTH]);
     if (refusal == REF_OUT_OF_SEQUENCE)
         join[JOIN_STATUS] = STATUS_IDLE;
-    put_header(out, request, ERROR, 0, WHOLE_HEAD);
+    put_error(out, request, refusal);
     return refusal + REF_PER_FRAME;
 }
 

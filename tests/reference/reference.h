@@ -31,6 +31,9 @@ uint32_t ref_write(const uint8_t *message, uint64_t message_len, uint8_t *record
 /* The bytes that a data descriptor stands for, 0 where it is refused. */
 uint32_t ref_descriptor_size(uint32_t descriptor);
 
+/* 02, 2026-06: the code that the error frame of this refusal carries, 0 for a number that puts no error frame. */
+uint32_t ref_error_code(uint32_t number);
+
 /* What checks 1 and 2 say of a table and of a store of that length. */
 uint32_t ref_table_check(const uint8_t *table, uint64_t table_len, uint64_t store_len);
 

@@ -9,8 +9,8 @@
 #include "stream.h"
 #include "tally.h"
 
-static const struct entry_points core = {sds_step, sds_read, sds_write, sds_descriptor_size, sds_table_check};
-static const struct entry_points reference = {ref_step, ref_read, ref_write, ref_descriptor_size, ref_table_check};
+static const struct entry_points core = {sds_step, sds_read, sds_write, sds_descriptor_size, sds_table_check, sds_error_code};
+static const struct entry_points reference = {ref_step, ref_read, ref_write, ref_descriptor_size, ref_table_check, ref_error_code};
 
 static struct stream stream;
 static struct areas theirs;
@@ -18,11 +18,11 @@ static uint8_t record[sizeof theirs.record], message[sizeof theirs.message]; /* 
 
 /* ---- what came up */
 
-enum { BY_ENTRY, BY_NUMBER, BY_SERVED, BY_FRAME, BY_DISTURBANCE, BY_READ, BY_CODE_READ, BY_WRITTEN, BY_CODE_WRITTEN, BY_TABLE, BY_SIZE, TALLIES };
+enum { BY_ENTRY, BY_NUMBER, BY_SERVED, BY_FRAME, BY_DISTURBANCE, BY_READ, BY_CODE_READ, BY_WRITTEN, BY_CODE_WRITTEN, BY_TABLE, BY_SIZE, BY_ERROR_CODE, TALLIES };
 enum served { READ_PLAIN, READ_IN_FRAGMENTS, WRITTEN_WHOLE, KEPT, COMPLETED, COMPLETED_ALONE, SET_OFF, SET_ON };
 
 static struct tally tallies[TALLIES] = {
-    [BY_ENTRY] = TALLY("calls", "step", "read", "write", "table_check", "descriptor_size"),
+    [BY_ENTRY] = TALLY("calls", "step", "read", "write", "table_check", "descriptor_size", "error_code"),
     /* 13 cannot: there is no such check (02, 2026-05) */
     [BY_NUMBER] = TALLY("step", "0", "1", "2", "3", "4", "5", "6", "7", "8", "9", "10", "11", "12", 0, "14"),
     [BY_SERVED] = TALLY("served", "Read, one frame", "Read, fragments", "whole Write", "fragment kept", "last of several", "only fragment", "short Write OFF",
@@ -36,6 +36,8 @@ static struct tally tallies[TALLIES] = {
     [BY_CODE_WRITTEN] = TALLY("write, short", SHORT_CODE_NAMES),
     [BY_TABLE] = TALLY("table_check", "0", "1", "2"),
     [BY_SIZE] = TALLY("descriptor_size", "refused", "1", "2", "3", "4", "other"),
+    /* of 000's codes those that name a refusal of ours, and 14, which is our own */
+    [BY_ERROR_CODE] = TALLY("error_code", "none", "1", "2", 0, 0, 0, 0, 0, 0, "9", 0, 0, 0, 0, "14"),
 };
 
 static void count(unsigned tally, unsigned place)
@@ -96,7 +98,8 @@ static void count_call(uint32_t result)
     case READ: count_message(BY_READ, BY_CODE_READ, result, theirs.message); break;
     case WRITE: count_message(BY_WRITTEN, BY_CODE_WRITTEN, result, message); break;
     case TABLE_CHECK: count(BY_TABLE, result); break;
-    default: count(BY_SIZE, result < 5 ? result : 5); break;
+    case DESCRIPTOR_SIZE: count(BY_SIZE, result < 5 ? result : 5); break;
+    default: count(BY_ERROR_CODE, result); break;
     }
 }
 
@@ -114,8 +117,8 @@ static void print_difference(uint32_t ours, uint32_t reference_says)
     const struct call *c = &stream.call;
     const uint8_t *a = (const uint8_t *)&stream.areas, *b = (const uint8_t *)&theirs;
     printf("DIFFERS at entry point %d: archive %u, reference %u\n", c->entry, ours, reference_says);
-    printf("own %u, descriptor %u, lengths: record %u, message %u, table %u, store %u, work %u, out %u\n", c->own, c->descriptor, c->record_len, c->message_len,
-           c->table_len, c->store_len, c->work_len, c->out_len);
+    printf("own %u, descriptor %u, refusal %u, lengths: record %u, message %u, table %u, store %u, work %u, out %u\n", c->own, c->descriptor, c->refusal,
+           c->record_len, c->message_len, c->table_len, c->store_len, c->work_len, c->out_len);
     print_bytes("record", record, sizeof record);
     print_bytes("message", message, sizeof message);
     print_bytes("table", theirs.table, c->table_len < 256 ? c->table_len : 256);
@@ -147,6 +150,20 @@ static int same_sizes(void)
             printf("DIFFERS: size of descriptor %05X: archive %u, reference %u\n", descriptor, sds_descriptor_size(descriptor), ref_descriptor_size(descriptor));
             return 0;
         }
+    return 1;
+}
+
+/* every number of 17 bits, and the lowest 16 with each bit above */
+static int same_codes(void)
+{
+    enum { ALL = 0x20000, LOWEST = 16, ABOVE = 15 };
+    for (uint32_t i = 0; i < ALL + LOWEST * ABOVE; i++) {
+        uint32_t beyond = i - ALL, number = i < ALL ? i : (uint32_t)ALL << beyond / LOWEST | beyond % LOWEST;
+        if (sds_error_code(number) != ref_error_code(number)) {
+            printf("DIFFERS: code of refusal %u: archive %u, reference %u\n", number, sds_error_code(number), ref_error_code(number));
+            return 0;
+        }
+    }
     return 1;
 }
 
@@ -190,7 +207,7 @@ int main(int argc, char **argv)
     while (tallies[BY_ENTRY].counts[STEP] < asked.count)
         if (!same_call())
             return 1;
-    if (!same_sizes() || !sizes_changed_as_asked())
+    if (!same_sizes() || !sizes_changed_as_asked() || !same_codes())
         return 1;
     if (!all_came_up()) {
         printf("a kind with 0 above never came up, or one came up that cannot\n");

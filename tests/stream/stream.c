@@ -341,6 +341,7 @@ void stream_next(struct stream *s)
     s->call.entry = one_in(s, 8) ? 1 + below(s, ENTRIES - 1) : STEP;
     s->call.disturbance = NONE;
     s->call.descriptor = one_in(s, 16) ? draw(s) : below(s, 65536) & 0xCF7F;
+    s->call.refusal = one_in(s, 16) ? draw(s) : below(s, 16);
     if (s->call.entry == WRITE)
         put_message(s);
     else
@@ -357,13 +358,14 @@ uint32_t stream_call_of(const struct entry_points *points, const struct call *c,
     case READ: return points->read(a->record, c->record_len, a->message, c->message_len);
     case WRITE: return points->write(a->message, c->message_len, a->record, c->record_len);
     case TABLE_CHECK: return points->table_check(a->table, c->table_len, c->store_len);
-    default: return points->descriptor_size(c->descriptor);
+    case DESCRIPTOR_SIZE: return points->descriptor_size(c->descriptor);
+    default: return points->error_code(c->refusal);
     }
 }
 
 uint32_t stream_call(struct stream *s)
 {
-    static const struct entry_points core = {sds_step, sds_read, sds_write, sds_descriptor_size, sds_table_check};
+    static const struct entry_points core = {sds_step, sds_read, sds_write, sds_descriptor_size, sds_table_check, sds_error_code};
     return stream_call_of(&core, &s->call, &s->areas);
 }
 

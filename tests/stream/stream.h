@@ -1,5 +1,5 @@
 /*
- * stream.h: random calls of the five entry points of sds.h, the same on every machine for the same seed.
+ * stream.h: random calls of the six entry points of sds.h, the same on every machine for the same seed.
  *
  *     static struct stream s;
  *     stream_start(&s, seed);
@@ -29,7 +29,7 @@
 /* Bytes behind each buffer. They let a length be too large, and no call may alter those beyond the length given. */
 #define STREAM_SLACK 16
 
-enum entry { STEP, READ, WRITE, TABLE_CHECK, DESCRIPTOR_SIZE, ENTRIES };
+enum entry { STEP, READ, WRITE, TABLE_CHECK, DESCRIPTOR_SIZE, ERROR_CODE, ENTRIES };
 enum frame { NEXT_FRAGMENT, FIRST_FRAGMENT, WHOLE_WRITE, PLAIN_READ, SHORT_FORM, STRANGER, NOISE, FRAMES };
 enum disturbance {
     NONE, ONE_BIT, ONE_BYTE, OTHER_DLC, OTHER_NUMBER, OTHER_TOTAL, TABLE_BYTE, WORK_BYTE,
@@ -49,7 +49,7 @@ struct call {
     enum entry entry;
     enum frame frame;
     enum disturbance disturbance;
-    uint32_t own, descriptor;
+    uint32_t own, descriptor, refusal;
     uint32_t record_len, message_len, table_len, store_len, work_len, out_len;
 };
 
@@ -71,7 +71,7 @@ struct stream {
     uint8_t undamaged;
 };
 
-/* the five entry points of whoever is called */
+/* the six entry points of whoever is called */
 struct entry_points {
     uint32_t (*step)(const uint8_t *record, uint64_t record_len, uint32_t own, const uint8_t *table, uint64_t table_len, uint8_t *store,
                      uint64_t store_len, uint8_t *work, uint64_t work_len, uint8_t *out, uint64_t out_len);
@@ -79,6 +79,7 @@ struct entry_points {
     uint32_t (*write)(const uint8_t *message, uint64_t message_len, uint8_t *record, uint64_t record_len);
     uint32_t (*descriptor_size)(uint32_t descriptor);
     uint32_t (*table_check)(const uint8_t *table, uint64_t table_len, uint64_t store_len);
+    uint32_t (*error_code)(uint32_t number);
 };
 
 void stream_start(struct stream *s, uint64_t seed);

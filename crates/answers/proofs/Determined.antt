@@ -1,10 +1,17 @@
 -- DETERMINATION: two outcomes that meet a public function's contract are equal, in the count and every lent byte, and the contract asks nothing of a caller.
 use mathlib.Core.Path.{_≡_, sym, _∙_}
 use denote.Ref.{now}
+use Rattle.answers.proofs.answering.code_of.Reads as code-of
 use Rattle.answers.proofs.answering.refuse.Reads as refuse
 use Rattle.answers.proofs.answering.acknowledge.Reads as acknowledge
 use Rattle.answers.proofs.answering.acknowledge_short.Reads as acknowledge-short
 use Rattle.answers.proofs.answering.send_part.Reads as send-part
+
+pub code-of-determined : (κs : _) (args : _) (r r' : _) (s s' : _) → code-of.Post κs args r s → code-of.Post κs args r' s' → r ≡ r'
+code-of-determined κs args r r' s s' p q = p ∙ sym q
+
+pub code-of-asks-nothing : (κs : _) (args : _) → code-of.Asked κs args
+code-of-asks-nothing κs args = tt
 
 pub refuse-determined : (κs : _) (args : _) (r r' : _) (s s' : _) → refuse.Post κs args r s → refuse.Post κs args r' s'
     → now (s .1 .1 .1 .0) ≡ now (s' .1 .1 .1 .0)

@@ -24,6 +24,7 @@ use Rattle.codec.specs.Code.{longPlaces, shortPlaces, putTen, putLong, putShort
 use Rattle.codec.proofs.Fits.{subject-fits, short-fits}
 use Rattle.codec.proofs.Images.{places-are-image, short-places-are-image}
 use Rattle.guest.specs.Checks.{leastOut, fragmentBytes}
+use Rattle.guest.specs.Errors.{codeOf}
 use Rattle.guest.specs.Step.{answering, errorFrame, successFrame, acknowledgeOf, shortFrame, fragmentPart, fragmentFrame, fragmentFrames, readFrames, flat, sent}
 use Rattle.guest.proofs.Frames.{fragment-ten, fragments-ten, fragments-count, flat-length, answering-fits, acknowledge-fits}
 use Rattle.answers.specs.Code.{Answerable, answerable, inFront, single, refusedWith, acknowledgedWith, shortAcknowledged, partFits, partCount, partSent}
@@ -144,7 +145,7 @@ module _ (own : ℕ) (h : Header) (out : List ℕ) (f : Answerable own h (length
 
   pub refused : (number : ℕ) → refusedWith own h number out ≡ sent (errorFrame own h number ∷ []) out
   unfolding errorFrame
-  refused number = single-sent erroneous [] (omega arith) (omega arith)
+  refused number = single-sent erroneous (codeOf number ∷ []) (omega arith) (omega arith)
 
   pub acknowledged : acknowledgedWith own h out ≡ sent (successFrame own h ∷ []) out
   unfolding successFrame

@@ -3,7 +3,7 @@
 use Prim.Native.Nat.{ℕ, _+_, _*_, _≤_}
 use mathlib.Core.Path.{_≡_}
 use mathlib.Core.Bool.{Bool, true, cond, _&&_}
-use mathlib.Core.List.{List, []}
+use mathlib.Core.List.{List, [], _∷_}
 use lib.ListN.{length}
 use lib.Dec.{leb}
 use Rattle.laws.specs.Put.{put}
@@ -15,6 +15,7 @@ use Rattle.codec.specs.Names.{frameSize, mostAddress, lowestLong, successful, e
 use Rattle.codec.specs.Writing.{subjectFits}
 use Rattle.codec.specs.Code.{longPlaces, shortPlaces}
 use Rattle.guest.specs.Checks.{leastOut}
+use Rattle.guest.specs.Errors.{codeOf}
 use Rattle.guest.specs.Step.{answering, acknowledgeOf, readFrames, sent}
 
 -- what an answer needs: an address, a service and an object that a frame carries, and room for the most frames of a reply
@@ -38,9 +39,9 @@ inFront f out = cond (leb frameSize (length out)) (put out 0 f) out
 unfoldable pub single : ℕ → Header → ℕ → Data → List ℕ → List ℕ
 single own h response body out = inFront (longPlaces (answering own h response) 0 body) out
 
--- after a refusal: whatever its number, the frame has no data
+-- after a refusal: the frame says its code
 abbrev pub refusedWith : ℕ → Header → ℕ → List ℕ → List ℕ
-refusedWith own h number out = single own h erroneous (dataOf []) out
+refusedWith own h number out = single own h erroneous (dataOf (codeOf number ∷ [])) out
 
 -- after a Write that is done
 abbrev pub acknowledgedWith : ℕ → Header → List ℕ → List ℕ

@@ -1,15 +1,17 @@
 // Answer frames, at the front of the output.
 ghost use mathlib.Core.Path.{_≡_};
 ghost use mathlib.Core.Bool.{true};
+ghost use mathlib.Core.List.{[], _∷_};
 ghost use Prim.Native.Nat.{_+_, _*_, _≤_};
 ghost use lib.ListN.{length};
 ghost use Rattle.laws.specs.Put.{put};
-ghost use Rattle.octets.specs.Data.{tidy};
+ghost use Rattle.octets.specs.Data.{dataOf, tidy};
 ghost use Rattle.codec.specs.Names.{frameSize, mostFragmentData};
 ghost use Rattle.codec.specs.Writing.{imageOf, subjectFits};
 ghost use Rattle.codec.specs.Code.{longPlaces};
 ghost use Rattle.codec.specs.declared.Message.the-variants.{Fragment};
 ghost use Rattle.guest.specs.Checks.{leastOut, fragmentBytes};
+ghost use Rattle.guest.specs.Errors.{codeOf};
 ghost use Rattle.guest.specs.Step.{answering as Step·answering, acknowledgeOf, fragmentFrame, fragmentFrames, fragmentCount, readFrames, sent};
 ghost use Rattle.answers.specs.Code.{Answerable, answerable as Code·answerable, single, refusedWith, acknowledgedWith, shortAcknowledged, PieceReady, partCount, partSent};
 use codec::ERRONEOUS;
@@ -65,11 +67,43 @@ fn send_single(own: u8, h: Header, response: u8, body: Data, out: &mut [u8])
     send(answering(own, h, response), 0, body, 0, out);
 }
 
-// "Refusals 7 to 14 put one frame: Error, flag clear, DLC 2" (13 is gone: 02, 2026-05): no data, whatever the number.
+// Why a frame is refused, as its error frame says it (02, 2026-06): the table's code for this refusal, 0 where it has no entry. A number is 32 bits wide, so
+// that C's 263 is not taken for 7.
+pub fn code_of(number: u32) -> u8
+    ensures { λ r. ⌜ r ≡ codeOf number ⌝ }
+{
+    match number {
+        7 => guest::ILLEGAL_SERVICE_PARAMETERS,
+        8 => guest::ILLEGAL_DLC,
+        9 => guest::ILLEGAL_SERVICE_PARAMETERS,
+        10 => guest::READ_ONLY_VARIABLE,
+        11 => guest::ILLEGAL_DLC,
+        12 => guest::ILLEGAL_DLC,
+        14 => 14,
+        _ => 0,
+    }
+}
+
+// The data of an error frame: one byte.
+fn reason(number: u8) -> Data
+    ensures { λ r. ⌜ r ≡ dataOf (codeOf number ∷ []) ⌝ }
+{
+    Data {
+        len: 1,
+        b0: code_of(number as u32),
+        b1: 0,
+        b2: 0,
+        b3: 0,
+        b4: 0,
+        b5: 0,
+    }
+}
+
+// "Refusals 7 to 14 put one frame: Error, flag clear" (13 is gone: 02, 2026-05), with "DLC 3 and one data byte" (02, 2026-06).
 pub fn refuse(own: u8, h: Header, number: u8, out: &mut [u8])
     ensures { λ _. ⌜ now (out .exit) ≡ refusedWith own h number (now (out .entry)) ⌝ }
 {
-    send_single(own, h, ERRONEOUS, octets::no_data(), out);
+    send_single(own, h, ERRONEOUS, reason(number), out);
 }
 
 // A Write that is done: "one Successful frame, flag clear, DLC 2".

@@ -3,5 +3,6 @@ mod answering;
 
 pub use answering::acknowledge;
 pub use answering::acknowledge_short;
+pub use answering::code_of;
 pub use answering::refuse;
 pub use answering::send_part;

@@ -13,13 +13,14 @@ use Rattle.table.specs.Descriptor.{sizeBy, descriptorSize}
 use Rattle.table.specs.Table.{attributeOf, lengthsFit, attributes, entryFits, wellFrom, wellFormed, firstIn, find, firstNetwork, singleBoolean}
 use Rattle.join.specs.Work.{load, shapedBy, astray, joined, areaAfter}
 use Rattle.guest.specs.Checks.{soughtIn}
+use Rattle.guest.specs.Errors.{codeOf}
 use Rattle.guest.specs.Step.{judgedOf, joinedIn, perform, areas, errorFrame, successFrame, shortFrame, reply, replyTo, next, answer}
 use Rattle.demands.specs.Sample.{sampleTable, fresh, freshOut, sample}
 use Rattle.demands.specs.Cases.{cases, descriptors, played, expected, byTurns, eyeTable, eyeFresh, eye, writeOnTo36, writeOffTo36, writeOnAckFrom36, writeOffAckFrom36}
 
 -- what computes here: `unfolding computing` unfolds all that its own line names
 unfoldable pub computing : Unit {0}
-unfolding put headerOf dataOf longOf messageOf bytesOf longFrame frameOf imageOf sizeBy descriptorSize attributeOf lengthsFit attributes entryFits wellFrom wellFormed firstIn find firstNetwork singleBoolean soughtIn load shapedBy astray joined areaAfter judgedOf joinedIn perform errorFrame successFrame shortFrame replyTo sampleTable fresh freshOut sample flatMap
+unfolding put headerOf dataOf longOf messageOf bytesOf longFrame frameOf imageOf sizeBy descriptorSize attributeOf lengthsFit attributes entryFits wellFrom wellFormed firstIn find firstNetwork singleBoolean soughtIn load shapedBy astray joined areaAfter judgedOf joinedIn perform codeOf errorFrame successFrame shortFrame replyTo sampleTable fresh freshOut sample flatMap
 computing = tt
 
 -- "Cases marked P go together as a single tabled statement about the definitions": P1 to P11, and P12

@@ -2,12 +2,16 @@
 use Prim.Native.Nat.{ℕ, _+_, _≤_, _<_}
 use mathlib.Core.Path.{_≡_, refl, ap, _∙_}
 use mathlib.Core.Logic.{_↔_, _≢_}
+use mathlib.Core.Bool.{true, cond}
 use mathlib.Core.List.{List, [], _∷_, _++_, map, append-nil}
 use native.Mathlib.Omega.{arith}
 use lib.ListN.{length, drop}
 use lib.Seq.{take-at, drop-at}
-use Rattle.laws.specs.Checks.{Check, firstOf, holdsAt, FirstAt}
-use Rattle.laws.proofs.Checks.{given-exactly, none-holds, first-most}
+use lib.Dec.{leb}
+use borrow.Author.Tests.{le-leb}
+use Rattle.laws.specs.Checks.{Check, firstOf, holdsAt, FirstAt, listed}
+use Rattle.laws.specs.Mixing.{those}
+use Rattle.laws.proofs.Checks.{given-exactly, none-holds, first-most, first-listed, listed-those}
 use Rattle.laws.proofs.Tests.{clash}
 use Rattle.laws.proofs.Put.{length-put, put-front}
 use Rattle.codec.specs.Fields.{headerOf}
@@ -16,10 +20,12 @@ use Rattle.join.specs.Work.{recordSize, areaSize, base, dropped}
 use Rattle.join.proofs.Places.{base-inside}
 use Rattle.join.proofs.Records.{dropped-length, dropped-status, dropped-others}
 use Rattle.guest.specs.Checks.{leastOut}
+use Rattle.guest.specs.Errors.{errorCodes, entriesOf, codeOf}
 use Rattle.guest.specs.Step.{areas, sent, Call, settingOf, Outcome, outcome, outcomeOf, stepOf}
 use Rattle.guest.proofs.Plans.{Accepted, accepted}
 use Rattle.guest.proofs.Numbers.{number-is}
 use Rattle.guest.proofs.Effects.{Kind, mute, error, astray, fine, kind, ignored, refused-only, refused-dropping}
+use Rattle.guest.proofs.Errors.{one-each}
 use Rattle.guest.proofs.Frames.{error-ten}
 use Rattle.demands.specs.Demand1.{checksOf, refusals, errorFor, OneFrame, Dropped, Demand1}
 
@@ -104,6 +110,18 @@ module _ (c : Call) where
 -- the table of checks has a row for each of the thirteen refusals, in their order, and no other
 pub thirteen-refusals : (c : Call) → map (λ (row : Check). row .1) (checksOf c) ≡ refusals
 thirteen-refusals c = refl
+
+-- THE TABLE OF CODES (02, 2026-06): "every refusal from 7 on has exactly one entry", and the table has no other. The test is computed
+pub one-entry-each : (n : ℕ) → entriesOf n errorCodes ≡ cond (listed n (those (leb 7) refusals)) ((n, codeOf n) ∷ []) []
+unfolding codeOf
+one-entry-each n = one-each 0 (those (leb 7) refusals) errorCodes refl n
+
+-- a call that is refused with 7 or more has such an entry
+pub refused-has-entry : (c : Call) → 7 ≤ the-number c → entriesOf (the-number c) errorCodes ≡ (the-number c, codeOf (the-number c)) ∷ []
+refused-has-entry c h =
+    let n = the-number c in
+    let given : listed n refusals ≡ true = rw (number-first c) (first-listed (checksOf c) (omega (arith, number-first c))) in
+    one-entry-each n ∙ simp (listed-those (leb 7) n refusals (le-leb 7 n h) given)
 
 pub demand-1 : Demand1 stepOf
 demand-1 = record {

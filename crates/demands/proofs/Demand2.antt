@@ -1,14 +1,14 @@
 -- Demand 2 is met (specs/Demand2), and what the codec and the frames of an answer promise by themselves.
 use Prim.Native.Nat.{ℕ, _*_, _≤_, _<_}
-use mathlib.Core.Path.{_≡_, refl, ap, _∙_}
+use mathlib.Core.Path.{_≡_, refl, sym, ap, _∙_}
 use mathlib.Core.Bool.{true, false, cond, not, or-false}
 use mathlib.Mathlib.Data.Bool.Basic.{or-eq-false-eq-eq-false-and-eq-false as neither}
 use mathlib.Core.List.{List, [], _∷_, _++_}
 use native.Mathlib.Omega.{arith}
-use lib.ListN.{length, getD, drop}
+use lib.ListN.{length, getD, take, drop}
 use lib.Seq.{take-at, drop-at}
 use lib.Dec.{eqb, leb}
-use borrow.Author.Tests.{eqb-true, eqb-false, not-false}
+use borrow.Author.Tests.{eqb-true, eqb-false, leb-true, leb-false, not-false}
 use Rattle.laws.specs.Bytes.{Bytes}
 use Rattle.laws.specs.Checks.{firstOf, holdsAt}
 use Rattle.laws.proofs.Put.{put-front, one-put, one-beside}
@@ -23,22 +23,24 @@ use Rattle.codec.specs.declared.Message.{Message}
 use Rattle.codec.specs.declared.Message.the-variants.{Short, Plain, Fragment}
 use Rattle.codec.specs.Names.{mostAddress, writeOff, writeOn, lowestLong, successful, erroneous}
 use Rattle.codec.specs.Fields.{headerOf}
-use Rattle.codec.specs.Reading.{shortOf, messageOf, readOf}
+use Rattle.codec.specs.Reading.{unserved, shortOf, messageOf, readOf}
 use Rattle.codec.specs.Writing.{writeNumber, writtenOf, clearedOf}
-use Rattle.codec.proofs.Headers.{ranged}
+use Rattle.codec.proofs.Headers.{ranged, long-served}
 use Rattle.codec.proofs.Promises as codec
 use Rattle.table.specs.declared.Attribute.{Attribute}
 use Rattle.table.proofs.Tables.{part-whole}
 use Rattle.join.specs.Work.{lost}
 use Rattle.guest.specs.declared.Plan.the-variants.{Join}
-use Rattle.guest.specs.Checks.{notForUs, shortWrite, outOfOrder, planChecks, pieceOf}
+use Rattle.guest.specs.Checks.{inShort, notForUs, shortWrite, outOfOrder, planChecks, pieceOf}
+use Rattle.guest.specs.Errors.{codeOf}
 use Rattle.guest.specs.Step.{Judged, asks, stateOf, judgedOf, short, write, effectOf, joinedIn, perform, answering, errorFrame, successFrame, acknowledgeOf, shortFrame, fragmentPart, fragmentCount, readFrames, replyTo, flat, sent, Call, settingOf, Outcome, outcomeOf, stepOf}
 use Rattle.guest.specs.Frames.{dataOfFrames}
-use Rattle.guest.proofs.Plans.{ServedBy, by-switch, by-read, by-write, by-join, served-by}
+use Rattle.guest.proofs.Short.{short-most}
+use Rattle.guest.proofs.Plans.{accepted, ServedBy, by-switch, by-read, by-write, by-join, served-by}
 use Rattle.guest.proofs.Frames.{reply-tens, reply-count, flat-length, whole-reads, nth-reads, read-data, read-count, error-reads, success-reads, short-reads}
-use Rattle.demands.specs.Demand1.{checksOf}
-use Rattle.demands.specs.Demand2.{framesFor, Sent, leftBy, Served, switched, read, written, fragment, Demand2}
-use Rattle.demands.proofs.Demand1.{demand-1}
+use Rattle.demands.specs.Demand1.{checksOf, errorFor}
+use Rattle.demands.specs.Demand2.{framesFor, Sent, leftBy, Served, switched, read, written, fragment, SaysWhy, Demand2}
+use Rattle.demands.proofs.Demand1.{refused-has-entry, demand-1}
 
 -- ---- the codec, alone
 
@@ -60,8 +62,8 @@ short-acknowledge-says = short-reads
 -- the others: own address, service, object and ID are those that the checks let through
 
 module _ (own : ℕ) (h : Header) (o : own ≤ mostAddress) (l : lowestLong ≤ h .service) (m : h .service ≤ 7) (b : h .object ≤ 31) where
-  -- an error frame reads as Error, flag clear, no data
-  pub error-says : (number : ℕ) → readOf (errorFrame own h number) ≡ Got (Plain (answering own h erroneous) (dataOf []))
+  -- an error frame reads as Error, flag clear, and one byte, the code of the refusal
+  pub error-says : (number : ℕ) → readOf (errorFrame own h number) ≡ Got (Plain (answering own h erroneous) (dataOf (codeOf number ∷ [])))
   error-says = error-reads own h o l m b
 
   -- the answer to a Write as Successful, flag clear, no data
@@ -186,5 +188,40 @@ module _ (c : Call) where
         leaves = rw p;
       })
 
+  -- what a call that is answered with an error frame has passed: check 1, and check 5 as a long form
+  own-fits : 7 ≤ stepOf c .number → c .own ≤ mostAddress
+  unfolding holdsAt
+  own-fits h = accepted (settingOf c) (c .frame) (demand-1 .refused-exactly c (stepOf c .number) (omega arith) .0 refl .1 1 (omega arith)) .own
+
+  in-long : 7 ≤ stepOf c .number → inShort (headerOf (c .frame)) ≡ false
+  unfolding stepOf outcomeOf
+  in-long h =
+      split (inShort (headerOf (c .frame)))
+      (λ t. absurd (omega (arith, short-most (settingOf c) (c .frame) t (c .given))))
+      (λ f. f)
+
+  service-fits : 7 ≤ stepOf c .number → lowestLong ≤ headerOf (c .frame) .service
+  unfolding holdsAt
+  service-fits h =
+      let five = demand-1 .refused-exactly c (stepOf c .number) (omega arith) .0 refl .1 5 (omega arith) in
+      long-served (headerOf (c .frame)) (eqb-false (headerOf (c .frame) .dlc) 0 (in-long h)) (neither (unserved (headerOf (c .frame))) _ .0 five .0) .1
+
+  -- the error frame stands in front of the output: 7 to 12, or 14
+  error-in-front : 7 ≤ stepOf c .number → take 10 (stepOf c .out) ≡ errorFor c (stepOf c .number)
+  error-in-front h =
+      split (leb (stepOf c .number) 12)
+      (λ t. demand-1 .error-alters-one-frame c h (leb-true (stepOf c .number) 12 t) .0 .front)
+      (λ f.
+      let fourteen : stepOf c .number ≡ 14 = omega (arith, leb-false (stepOf c .number) 12 f, demand-1 .at-most-fourteen c, demand-1 .thirteen-never c) in
+      demand-1 .fourteen-drops c fourteen .0 .front ∙ ap (errorFor c) (sym fourteen))
+
+  refused-why : 7 ≤ stepOf c .number → SaysWhy c (stepOf c)
+  refused-why h = record {
+    code = codeOf (stepOf c .number);
+    entry = refused-has-entry c h;
+    says = ap readOf (error-in-front h)
+        ∙ error-says (c .own) (headerOf (c .frame)) (own-fits h) (service-fits h) (ranged (c .frame) .service) (ranged (c .frame) .object) (stepOf c .number);
+  }
+
 pub demand-2 : Demand2 stepOf
-demand-2 = record { sends = sent-in-front; serves = served-so }
+demand-2 = record { sends = sent-in-front; serves = served-so; says-why = refused-why }

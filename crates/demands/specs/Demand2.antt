@@ -1,8 +1,8 @@
 -- DEMAND 2. "Frames are read and written as the SDS application layer specification lays them out; attributes are read, written and sized by it and the
 -- component model. Reading what we wrote gives the message; writing what we read gives the frame with its unused bytes cleared."
 -- The layout is said by the definitions of `codec` (000's figures) and `table` (001, section 5), and what is promised of them alone stands in
--- proofs/Demand2. Here stands what is promised of any device: that a frame which no check refuses is served as 01 says, and that the count is tied to the
--- frames put.
+-- proofs/Demand2. Here stands what is promised of any device: that a frame which no check refuses is served as 01 says, that the count is tied to the
+-- frames put, and that an error frame says why.
 use Prim.Native.Nat.{ℕ, _*_, _≤_}
 use mathlib.Core.Path.{_≡_}
 use mathlib.Core.Logic.{_≢_}
@@ -11,11 +11,11 @@ use mathlib.Core.List.{List, [], _∷_}
 use lib.ListN.{length, getD, take, drop}
 use Rattle.laws.specs.Checks.{holdsAt}
 use Rattle.octets.specs.declared.Data.{Data}
-use Rattle.octets.specs.Data.{bytesOf}
+use Rattle.octets.specs.Data.{dataOf, bytesOf}
 use Rattle.codec.specs.declared.Subject.{Subject}
 use Rattle.codec.specs.declared.Message.the-variants.{Short, Plain, Fragment}
 use Rattle.codec.specs.declared.Answer.the-variants.{Got}
-use Rattle.codec.specs.Names.{writeOff, writeOn, writeOffAck, writeOnAck, writeService, readService}
+use Rattle.codec.specs.Names.{writeOff, writeOn, writeOffAck, writeOnAck, writeService, readService, erroneous}
 use Rattle.codec.specs.Fields.{headerOf}
 use Rattle.codec.specs.Reading.{readOf}
 use Rattle.codec.specs.Writing.{imageOf}
@@ -25,7 +25,8 @@ use Rattle.table.specs.Table.{writable, find, firstNetwork, singleBoolean, part
 use Rattle.join.specs.Work.{Joined, lost}
 use Rattle.join.specs.History.{Shaped}
 use Rattle.guest.specs.Checks.{joiner, pieceOf}
-use Rattle.guest.specs.Step.{plain, short, Effect, show, write, joinEffect, joinedIn, answer, flat, Call, settingOf, Outcome, outcomeOf}
+use Rattle.guest.specs.Errors.{errorCodes, entriesOf}
+use Rattle.guest.specs.Step.{plain, short, Effect, show, write, joinEffect, joinedIn, answering, answer, flat, Call, settingOf, Outcome, outcomeOf}
 use Rattle.guest.specs.Frames.{Tens}
 use Rattle.demands.specs.Demand1.{Device, checksOf}
 
@@ -106,6 +107,13 @@ pub data Served (c : Call) (o : Outcome) : Type 0 where
   written : ServedWrite c o → Served c o
   fragment : ServedFragment c o → Served c o
 
+-- an error frame says why (02, 2026-06): it reads as Error, flag clear, with one byte of data, the code of the only entry that the table has for the refusal
+pub record SaysWhy (c : Call) (o : Outcome) : Type 0 where
+  pub code : ℕ
+  pub entry : entriesOf (o .number) errorCodes ≡ (o .number, code) ∷ []
+  pub says : readOf (take 10 (o .out)) ≡ Got (Plain (answering (c .own) (headerOf (c .frame)) erroneous) (dataOf (code ∷ [])))
+
 pub record Demand2 (D : Device) : Type 0 where
   pub sends : (c : Call) → Sent c (D c)
   pub serves : (c : Call) → ((n : ℕ) → holdsAt (checksOf c) n ≡ false) → Served c (D c)
+  pub says-why : (c : Call) → 7 ≤ D c .number → SaysWhy c (D c)

@@ -1,9 +1,11 @@
--- Short facts of the definitions: easy errors of 01 that they shut out, and why there is no check 13.
+-- Short facts of the definitions: easy errors of 01 that they shut out, why there is no check 13, and what the codes of error frames stand for.
 use Prim.Native.Nat.{ℕ, _≤_}
 use mathlib.Core.Path.{_≡_, refl}
 use mathlib.Core.Bool.{false}
-use mathlib.Core.List.{List, [], _∷_}
+use mathlib.Core.List.{List, [], _∷_, map}
 use native.Mathlib.Omega.{arith}
+use lib.Dec.{eqb}
+use Rattle.laws.specs.Mixing.{those}
 use Rattle.octets.specs.declared.Data.{Data}
 use Rattle.octets.specs.Data.{dataOf}
 use Rattle.codec.specs.declared.Header.{Header}
@@ -16,6 +18,7 @@ use Rattle.join.specs.Work.{Piece}
 use Rattle.join.proofs.Joins.{shaped-by-in-words, number-most}
 use Rattle.guest.specs.declared.Plan.the-variants.{Join}
 use Rattle.guest.specs.Checks.{fragmentBytes, wrongPiece, pieceOf}
+use Rattle.guest.specs.Errors.{Entry, errorCodes, codeOf}
 use Rattle.guest.specs.Step.{asks, keep, Areas, perform, answering, errorFrame}
 use Rattle.guest.specs.History.{withPiece}
 use borrow.Author.Tests.{eq-eqb, not-false}
@@ -35,7 +38,13 @@ pub twelve-bounds-the-number : (u : Subject) (number total : ℕ) (b : Data) →
 twelve-bounds-the-number u number total b t e =
     number-most fragmentBytes 63 total number (b .len) (omega arith) t (shaped-by-in-words fragmentBytes total number (b .len) .0 (not-false _ e))
 
--- an error frame has its flag clear, whatever the request's
-pub error-is-plain : (own : ℕ) (h : Header) (number : ℕ) → errorFrame own h number ≡ imageOf (Plain (answering own h erroneous) (dataOf []))
+-- an error frame has its flag clear, whatever the request's, and one byte of data, from the table of codes
+pub error-is-plain : (own : ℕ) (h : Header) (number : ℕ) → errorFrame own h number ≡ imageOf (Plain (answering own h erroneous) (dataOf (codeOf number ∷ [])))
 unfolding errorFrame
 error-is-plain own h number = refl
+
+-- the table of codes from its other side, as a fitter reads it (docs/ERRORS.md): the refusals that share a code
+pub shared-codes :
+    map (λ (code : ℕ). map (λ (e : Entry). e .0) (those (λ e. eqb code (e .1)) errorCodes)) (1 ∷ 2 ∷ 9 ∷ 14 ∷ [])
+    ≡ (7 ∷ 9 ∷ []) ∷ (10 ∷ []) ∷ (8 ∷ 11 ∷ 12 ∷ []) ∷ (14 ∷ []) ∷ []
+shared-codes = refl

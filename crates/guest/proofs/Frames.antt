@@ -28,6 +28,7 @@ use Rattle.table.specs.Table.{endOf, partOf}
 use Rattle.join.specs.Work.{Piece, Joined, kept, done, lost}
 use Rattle.guest.specs.declared.Plan.the-variants.{Error, Read, Write, Join}
 use Rattle.guest.specs.Checks.{Setting, pieceOf}
+use Rattle.guest.specs.Errors.{codeOf}
 use Rattle.guest.specs.Step.{Judged, quiet, switches, asks, judgedOf, Form, plain, fragmented, short, Effect, ignore, refuse, show, write, keep, joinEffect, effectOf, joinedIn, Areas, answering, errorFrame, successFrame, acknowledgeOf, shortFrame, doneFrame, fragmentPart, fragmentFrame, fragmentFrames, fragmentCount, readFrames, replyTo, effectIn, answer, flat}
 use Rattle.guest.specs.Frames.{Tens, dataOfAnswer, dataOfFrames}
 use Rattle.guest.proofs.Plans.{SoundJudged, sound}
@@ -39,7 +40,7 @@ four-most n bs = rw length-take (omega arith)
 
 pub error-ten : (own : ℕ) (h : Header) (number : ℕ) → length (errorFrame own h number) ≡ 10
 unfolding errorFrame
-error-ten own h number = plain-length (answering own h erroneous) [] (omega arith)
+error-ten own h number = plain-length (answering own h erroneous) (codeOf number ∷ []) (omega arith)
 
 pub success-ten : (own : ℕ) (h : Header) → length (successFrame own h) ≡ 10
 unfolding successFrame
@@ -158,9 +159,11 @@ unfolding shortFrame
 short-reads own h o = written-read (Short 1 own (acknowledgeOf h)) (short-carried 1 own (acknowledgeOf h) (acknowledge-fits own h o))
 
 module _ (own : ℕ) (h : Header) (o : own ≤ mostAddress) (l : lowestLong ≤ h .service) (m : h .service ≤ 7) (b : h .object ≤ 31) where
-  pub error-reads : (number : ℕ) → readOf (errorFrame own h number) ≡ Got (Plain (answering own h erroneous) (dataOf []))
+  pub error-reads : (number : ℕ) → readOf (errorFrame own h number) ≡ Got (Plain (answering own h erroneous) (dataOf (codeOf number ∷ [])))
   unfolding errorFrame
-  error-reads number = written-read (Plain (answering own h erroneous) (dataOf [])) (plain-carried (answering own h erroneous) [] (answering-fits own h erroneous o l m (omega arith) b) (omega arith))
+  error-reads number =
+      written-read (Plain (answering own h erroneous) (dataOf (codeOf number ∷ [])))
+      (plain-carried (answering own h erroneous) (codeOf number ∷ []) (answering-fits own h erroneous o l m (omega arith) b) (omega arith))
 
   pub success-reads : readOf (successFrame own h) ≡ Got (Plain (answering own h successful) (dataOf []))
   unfolding successFrame

@@ -1,3 +1,4 @@
+pub mod Errors
 pub mod Facts
 pub mod Plans
 pub mod Short

@@ -34,6 +34,10 @@ module _ (s : Setting) (r : List ℕ) (l : inShort (headerOf r) ≡ true) where
       rw (sought-short (s .table) (headerOf r) l)
       (first-alone five (longChecks (headerOf r) (messageOf r) (firstNetwork (s .table) 0)) refl (not (inShort (headerOf r))) (ap not l))
 
+  first-most-five : firstOf (planChecks s r) ≤ 5
+  unfolding five
+  first-most-five = rw first-of-five (first-most 5 five refl)
+
   by-number : (n object : ℕ) → n ≤ 6 → (p q : Judged) → p ≡ q → cond (eqb n 0) p (refused n object) ≡ cond (eqb n 0) q (quiet n)
   by-number n object h p q e = split (eqb n 0) (λ t. simp t e) (λ t. simp (t, le-leb n 6 h))
 
@@ -43,11 +47,20 @@ module _ (s : Setting) (r : List ℕ) (l : inShort (headerOf r) ≡ true) where
   -- so it is refused without a frame, or gives a state
   pub short-judged : judgedOf s r
       ≡ cond (eqb (firstOf (planChecks s r)) 0) (switched (headerOf r) (firstNetwork (s .table) 0)) (quiet (firstOf (planChecks s r)))
-  unfolding judgedOf five
+  unfolding judgedOf
   short-judged =
-      let most : firstOf (planChecks s r) ≤ 5 = rw first-of-five (first-most 5 five refl) in
-      by-number (firstOf (planChecks s r)) (headerOf r .object) (omega arith) _ _
+      by-number (firstOf (planChecks s r)) (headerOf r .object) (omega (arith, first-most-five)) _ _
       (passes-as (soughtIn (s .table) (headerOf r)) ∙ ap (switched (headerOf r)) (sought-short (s .table) (headerOf r) l))
+
+  -- "Checks 6 to 14 don't apply": no number above 5 answers it
+  pub short-most : (x : Areas) → answer s r x .number ≤ 5
+  unfolding replyTo
+  short-most x = rw short-judged (go (firstOf (planChecks s r)) first-most-five (firstNetwork (s .table) 0))
+    where
+      go : (n : ℕ) → n ≤ 5 → (f : Found)
+          → replyTo (s .own) (headerOf r) (effectOf (joinedIn (x .work)) (cond (eqb n 0) (switched (headerOf r) f) (quiet n))) (x .store) .number ≤ 5
+      go n h Nothing = split (eqb n 0) (λ t. simp t (omega arith)) (λ t. simp t h)
+      go n h (At a) = split (eqb n 0) (λ t. simp t (omega arith)) (λ t. simp t h)
 
   -- "In demand 3 such a frame is one of object 0's": where it is served, whatever object its third byte would name; else it is nobody's
   pub served-owner : firstOf (planChecks s r) ≡ 0 → ownerOf s r ≡ some 0

@@ -1,4 +1,5 @@
 pub mod Checks
+pub mod Errors
 pub mod Step
 pub mod Belongs
 pub mod History

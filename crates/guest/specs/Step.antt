@@ -1,4 +1,5 @@
--- One frame: what it asks for, what it does, what is answered (01, from "One frame, one reply" on; 02, 2026-01, for the short form).
+-- One frame: what it asks for, what it does, what is answered (01, from "One frame, one reply" on; 02, 2026-01, for the short form, and 2026-06, for error
+-- frames).
 use Prim.Native.Nat.{ℕ, zero, suc, _+_, _*_, _/_}
 use mathlib.Core.Bool.{cond}
 use mathlib.Core.List.{List, [], _∷_, _++_}
@@ -24,6 +25,7 @@ use Rattle.join.specs.Work.{Piece, Joined, kept, done, lost, base, load, joined
 use Rattle.guest.specs.declared.Plan.{Plan}
 use Rattle.guest.specs.declared.Plan.the-variants.{Error, Read, Write, Join}
 use Rattle.guest.specs.Checks.{Setting, settingBy, inShort, fragmentBytes, joiner, pieceOf, soughtIn, planChecks}
+use Rattle.guest.specs.Errors.{codeOf}
 
 -- ---- the plan: what a frame asks for, decided without state
 
@@ -169,9 +171,9 @@ answering own h response = record {
   id = h .id;
 }
 
--- "one frame: Error, flag clear, DLC 2", for a refusal: of its number the frame says nothing
+-- "one frame: Error, flag clear", of which 02, 2026-06, says: "Error frames get DLC 3 and one data byte", the code of the refusal
 unfoldable pub errorFrame : ℕ → Header → ℕ → List ℕ
-errorFrame own h number = imageOf (Plain (answering own h erroneous) (dataOf []))
+errorFrame own h number = imageOf (Plain (answering own h erroneous) (dataOf (codeOf number ∷ [])))
 
 -- "one Successful frame, flag clear, DLC 2"
 unfoldable pub successFrame : ℕ → Header → List ℕ

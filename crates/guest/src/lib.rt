@@ -9,6 +9,13 @@ pub const MOST_FRAMES: usize = 64;
 
 pub const LEAST_OUT: usize = MOST_FRAMES * codec::FRAME_SIZE;
 
+// 000's error codes (figure 3.48) that name a fault of a frame that is refused with 7 to 12 (02, 2026-06). Of 14 it names none.
+pub const ILLEGAL_SERVICE_PARAMETERS: u8 = 1;
+
+pub const READ_ONLY_VARIABLE: u8 = 2;
+
+pub const ILLEGAL_DLC: u8 = 9;
+
 // What a frame in long form that checks 1 to 6 let pass asks for, decided by checks 7 to 12 and no state.
 pub enum Plan {
     // Refused with 7 to 12: one error frame.

@@ -1,13 +1,14 @@
 -- Each number of a table of checks is given exactly when its check holds and no earlier one does.
 use Prim.Native.Nat.{ℕ, _<_, _≤_}
-use mathlib.Core.Path.{_≡_, refl, sym, _∙_}
-use mathlib.Core.Bool.{Bool, true, false, cond, and-eq-true-iff}
-use mathlib.Core.List.{List, [], _∷_, _++_}
+use mathlib.Core.Path.{_≡_, refl, sym, ap, _∙_}
+use mathlib.Core.Bool.{Bool, true, false, cond, and-eq-true-iff, or-true}
+use mathlib.Core.List.{List, [], _∷_, _++_, map}
 use mathlib.Core.Logic.{_↔_}
 use native.Mathlib.Omega.{arith}
 use lib.Dec.{ltb, leb, eqb}
 use borrow.Author.Tests.{ltb-true, ltb-false, leb-true, eqb-true, eqb-false, eq-eqb, ne-eqb}
-use Rattle.laws.specs.Checks.{Check, firstOf, holdsAt, onlyWhere, FirstAt, risesFrom, mostIs}
+use Rattle.laws.specs.Checks.{Check, firstOf, holdsAt, onlyWhere, FirstAt, risesFrom, mostIs, listed}
+use Rattle.laws.specs.Mixing.{those}
 use Rattle.laws.proofs.Tests.{split, clash}
 
 -- what a table that rises says of its first row and of the rest
@@ -122,6 +123,24 @@ first-most m [] h = omega arith
 first-most m (c ∷ cs) h =
     let a = and-eq-true-iff (leb (c .1) m) (mostIs m cs) .0 h in
     split (c .0) (λ t. simp t (leb-true (c .1) m (a .0))) (λ f. simp f (first-most m cs (a .1)))
+
+-- the number that is given is a row's
+pub first-listed : (cs : List Check) → 0 < firstOf cs → listed (firstOf cs) (map (λ (c : Check). c .1) cs) ≡ true
+first-listed [] h = absurd (omega (arith, h))
+first-listed (c ∷ cs) h =
+    split (c .0)
+    (λ t. simp (t, eq-eqb (c .1) (c .1) refl))
+    (λ f. simp (f, first-listed cs (simp f at h), or-true))
+
+-- a number of a list that a test takes is among those that it takes
+pub listed-those : (p : ℕ → Bool) (n : ℕ) (ms : List ℕ) → p n ≡ true → listed n ms ≡ true → listed n (those p ms) ≡ true
+listed-those p n [] t h = h
+listed-those p n (m ∷ ms) t h =
+    split (eqb m n)
+    (λ s. simp (ap p (eqb-true m n s) ∙ t, s))
+    (λ s.
+    let behind = listed-those p n ms t (simp s at h) in
+    split (p m) (λ u. simp (u, s) behind) (λ u. simp u behind))
 
 pub holds-append : (cs ds : List Check) (n : ℕ) → holdsAt (cs ++ ds) n ≡ false → holdsAt cs n ≡ false
 unfolding holdsAt

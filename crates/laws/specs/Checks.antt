@@ -1,7 +1,7 @@
 -- An ordered table of checks: each row is a test and the number that answers where it is the first to hold.
 use Prim.Native.Nat.{ℕ, _<_}
 use mathlib.Core.Path.{_≡_}
-use mathlib.Core.Bool.{Bool, true, false, cond, _&&_}
+use mathlib.Core.Bool.{Bool, true, false, cond, _&&_, _||_}
 use mathlib.Core.List.{List, [], _∷_}
 use lib.Dec.{ltb, leb, eqb}
 
@@ -36,3 +36,8 @@ risesFrom k (c ∷ cs) = ltb k (c .1) && risesFrom (c .1) cs
 abbrev pub mostIs : ℕ → List Check → Bool
 mostIs m [] = true
 mostIs m (c ∷ cs) = leb (c .1) m && mostIs m cs
+
+-- whether a number stands in a list, as that of a row in the numbers of a table
+abbrev pub listed : ℕ → List ℕ → Bool
+listed n [] = false
+listed n (m ∷ ms) = eqb m n || listed n ms

@@ -8,6 +8,7 @@ use Rattle.sds.proofs.sds_read.Reads as sds-read
 use Rattle.sds.proofs.sds_write.Reads as sds-write
 use Rattle.sds.proofs.sds_descriptor_size.Reads as sds-descriptor-size
 use Rattle.sds.proofs.sds_table_check.Reads as sds-table-check
+use Rattle.sds.proofs.sds_error_code.Reads as sds-error-code
 
 -- ---- determination: two outcomes that meet a function's contract are equal, the number and each lent byte
 
@@ -31,6 +32,9 @@ sds-descriptor-size-determined κs args r r' s s' p q = p ∙ sym q
 pub sds-table-check-determined : (κs : _) (args : _) (r r' : _) (s s' : _) → sds-table-check.Post κs args r s → sds-table-check.Post κs args r' s' → r ≡ r'
 sds-table-check-determined κs args r r' s s' p q = p ∙ sym q
 
+pub sds-error-code-determined : (κs : _) (args : _) (r r' : _) (s s' : _) → sds-error-code.Post κs args r s → sds-error-code.Post κs args r' s' → r ≡ r'
+sds-error-code-determined κs args r r' s s' p q = p ∙ sym q
+
 -- ---- nothing is asked of a caller
 
 pub sds-step-asks-nothing : (κs : _) (args : _) → sds-step.Asked κs args
@@ -47,3 +51,6 @@ sds-descriptor-size-asks-nothing κs args = tt
 
 pub sds-table-check-asks-nothing : (κs : _) (args : _) → sds-table-check.Asked κs args
 sds-table-check-asks-nothing κs args = tt
+
+pub sds-error-code-asks-nothing : (κs : _) (args : _) → sds-error-code.Asked κs args
+sds-error-code-asks-nothing κs args = tt

@@ -5,6 +5,7 @@ mod messages;
 ghost use mathlib.Core.Path.{_≡_};
 ghost use Rattle.laws.specs.Checks.{firstOf};
 ghost use Rattle.sds.specs.Border.{borderReadNumber, borderRead, borderWriteNumber, borderWrite, borderSize, tableChecks, stepped, borderStep};
+ghost use Rattle.guest.specs.Errors.{codeOf};
 ghost use Rattle.guest.specs.Step.{areas, call, stepOf};
 use messages::MESSAGE;
 use messages::bordered;
@@ -84,4 +85,12 @@ pub extern "C" fn sds_table_check(table: &[u8], store_len: u64) -> u32
         return 0;
     }
     2
+}
+
+// The code that the error frame of a refusal carries; 0 where no error frame is put with this number.
+#[no_mangle]
+pub extern "C" fn sds_error_code(number: u32) -> u32
+    ensures { λ r. ⌜ r ≡ codeOf number ⌝ }
+{
+    answers::code_of(number) as u32
 }

@@ -2,8 +2,8 @@ use borrow.Author.Needs.{needs}
 use Rattle.answers.proofs.answering.refuse.Statement.{statement}
 use Rattle.answers.proofs.answering.refuse.Tie as tie
 
-no-data-requires : tie.Need-no-data-requires
-no-data-requires c κs = search needs
+reason-requires : tie.Need-reason-requires
+reason-requires c κs = search needs
 
 send-single-requires : tie.Need-send-single-requires
 send-single-requires c κs = search needs
@@ -14,7 +14,7 @@ same-length c = search needs
 returns : tie.Need-returns
 returns c =
     let done = c .before .before in
-    rw (done .send-single .ensures, done .before .before .no-data .ensures)
+    rw (done .send-single .ensures, done .before .before .reason .ensures)
 
 pub refuse-spec : {M : Type 1} → statement M
-refuse-spec = tie.close (tie.spec no-data-requires send-single-requires same-length returns)
+refuse-spec = tie.close (tie.spec reason-requires send-single-requires same-length returns)
