@@ -103,22 +103,27 @@ bool words_says_why(const struct sds_message *m)
     return m->kind == SDS_KIND_WHOLE && m->response == SDS_ERROR && m->length == 1;
 }
 
-/* 000's name of a code; a code that is the number of its own refusal is not from that list */
+/* 0 is no refusal's code: the core gives it for a number without one */
+static bool is_code_of(uint32_t number, uint8_t code)
+{
+    return code != 0 && sds_error_code(number) == code;
+}
+
+/* A code that is its own refusal's number is not from 000's list, though it has a name there. */
 static int error_code(FILE *to, uint8_t code)
 {
     const char *name = error_codes[code] != NULL ? error_codes[code] : "reserved";
-    bool own_number = code != SDS_SERVED && sds_error_code(code) == code;
-    return fprintf(to, "code %u (%s%s)", code, own_number ? "our own number; in the specification's list " : "", name);
+    return fprintf(to, "code %u (%s%s)", code, is_code_of(code, code) ? "our own number; in the specification's list " : "", name);
 }
 
 int words_reason(FILE *to, const uint8_t record[SDS_RECORD])
 {
     struct sds_message m;
     int width = 0;
-    if (sds_message_read(record, &m) != SDS_SERVED || !words_says_why(&m) || m.data[0] == 0)    /* 0 is no refusal's code */
+    if (sds_message_read(record, &m) != SDS_SERVED || !words_says_why(&m))
         return width;
     for (uint32_t number = 0; number < sizeof refusals / sizeof refusals[0]; number++)
-        if (sds_error_code(number) == m.data[0])
+        if (is_code_of(number, m.data[0]))
             width += fprintf(to, "%s%u: %s", width > 0 ? ", or " : "  refused ", number, refusals[number]);
     return width;
 }
