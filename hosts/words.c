@@ -1,4 +1,4 @@
-/* words.c: records and replies in words. The core takes records apart, so no bit place is said here. */
+/* words.c: records, replies and values in words. The core takes records apart, so no bit place is said here. */
 #include "words.h"
 
 /* 000, figure 3.4 */
@@ -78,6 +78,16 @@ static const char *const refusals[] = {
     [SDS_OUT_OF_ORDER] = "a fragment that does not follow the one before",
 };
 
+/* why a collector refuses: sds_host.h, enum sds_collected */
+static const char *const uncollected[] = {
+    [SDS_COLLECT_BAD_LENGTH] = "a length of what is lent is out of its range",
+    [SDS_COLLECT_BAD_FRAME] = "the record cannot be read",
+    [SDS_COLLECT_NO_ANSWER] = "no Successful answer of a guest to a Read",
+    [SDS_COLLECT_NO_TOTAL] = "a fragment of a message of 0 bytes",
+    [SDS_COLLECT_BAD_SHAPE] = "a fragment that begins at or behind the total, or of another length than its place asks for; an answer without data",
+    [SDS_COLLECT_OUT_OF_ORDER] = "a fragment that does not follow the one before it from that guest",
+};
+
 /* why a record of the right length is not read, by whoever it is: sds.h, sds_read */
 static const char *const unread[] = {
     [SDS_BAD_FRAME] = BAD_FRAME,
@@ -91,6 +101,11 @@ int words_bytes(FILE *to, const uint8_t *bytes, size_t count)
     for (size_t i = 0; i < count; i++)
         width += fprintf(to, " %02X", (unsigned)bytes[i]);
     return width;
+}
+
+int words_gap(FILE *to, int width)
+{
+    return fprintf(to, "%*s", width < WORDS_COLUMN ? WORDS_COLUMN - width : 2, "");
 }
 
 int words_number(FILE *to, uint32_t number)
@@ -156,4 +171,36 @@ int words_record(FILE *to, const uint8_t record[SDS_RECORD])
     if (m.length > 0)
         width += fprintf(to, "data");
     return width + words_bytes(to, m.data, m.length);
+}
+
+int words_collect_number(FILE *to, uint32_t number)
+{
+    return number == SDS_COLLECTED ? fprintf(to, "collected") : fprintf(to, "refused %u: %s", number, uncollected[number]);
+}
+
+/* How many of these bytes are a text: those before the zeros at the end, where all of them are printable; otherwise 0. */
+static size_t text_length(const uint8_t *bytes, size_t count)
+{
+    while (count > 0 && bytes[count - 1] == 0)
+        count--;
+    for (size_t i = 0; i < count; i++)
+        if (bytes[i] < 0x20 || bytes[i] > 0x7E)
+            return 0;
+    return count;
+}
+
+static int text(FILE *to, const uint8_t *bytes, size_t count)
+{
+    int width = fprintf(to, "  text \"");
+    for (size_t i = 0; i < count; i++)
+        width += fprintf(to, "%s%c", bytes[i] == '"' || bytes[i] == '\\' ? "\\" : "", bytes[i]);
+    return width + fprintf(to, "\"");
+}
+
+int words_value(FILE *to, const struct sds_value *value, const uint8_t *bytes)
+{
+    size_t characters = text_length(bytes, value->length);
+    int width = fprintf(to, "guest %-3u  object %-2u  attribute %-3u  %-3u bytes  data", value->guest, value->object, value->id, value->length);
+    width += words_bytes(to, bytes, value->length);
+    return characters > 0 ? width + text(to, bytes, characters) : width;
 }

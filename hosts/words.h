@@ -1,10 +1,10 @@
-/* words.h: records and replies in words, for people, grep and awk. */
+/* words.h: records, replies and values in words, for people, grep and awk. */
 #ifndef WORDS_H
 #define WORDS_H
 
 #include <stdbool.h>
 #include <stdio.h>
-#include "sds.h"
+#include "sds_host.h"
 
 enum { WORDS_COLUMN = 56 };    /* where a line goes on behind the ID */
 
@@ -31,7 +31,21 @@ bool words_says_why(const struct sds_message *m);
  */
 int words_reason(FILE *to, const uint8_t record[SDS_RECORD]);
 
+/* what sds_collect answers: "collected", or "refused 4: a fragment of a message of 0 bytes" */
+int words_collect_number(FILE *to, uint32_t number);
+
+/*
+ * A value with its bytes, and as a text where all of them are printable (20 to 7E hex) but for zeros at the end, by which names are filled up; these are
+ * left out of the text, spaces are not. A " or \ in it has a \ before it, so the text ends at the line's last character.
+ *
+ *     guest 32   object 0   attribute 56   11  bytes  data 47 41 54 45 20 53 45 4E 53 4F 52  text "GATE SENSOR"
+ */
+int words_value(FILE *to, const struct sds_value *value, const uint8_t *bytes);
+
 /* bytes as " 2C 01" */
 int words_bytes(FILE *to, const uint8_t *bytes, size_t count);
+
+/* the spaces behind a line of this width up to WORDS_COLUMN, or two where it has come as far */
+int words_gap(FILE *to, int width);
 
 #endif

@@ -63,6 +63,78 @@ enum sds_export {
  */
 uint32_t sds_export_record(const uint8_t *record, uint64_t record_len, uint8_t *line, uint64_t line_len);
 
+/*
+ * The host's side of a long Read: what guests answer, frame by frame, becomes whole values. Give sds_collect every frame that is heard, of all guests
+ * and in the order of the wire; it takes the answers to Reads and refuses the others.
+ *
+ *     static uint8_t work[SDS_COLLECT_WORK];                       zeros: it must begin so
+ *     static struct sds_tally tally;
+ *     struct sds_value value;
+ *
+ *     if (sds_collect_frame(record, work, &value, &tally) == SDS_COLLECTED && value.kind != SDS_VALUE_NONE)
+ *         show(value.guest, value.object, value.id, sds_value_bytes(&value, record, work), value.length);
+ *
+ * A work area has a record of SDS_WORK_RECORD bytes for each guest, at SDS_WORK_RECORD times its address. An answer in one frame is handed over at once,
+ * as a part of the record, and leaves what is half joined as it is; one in fragments with its last, as a part of the work area, and holds until the next
+ * call with a frame of that guest. An Error or a Wait from a guest does not drop what is half joined of it: a host that waits needs a clock of its own.
+ */
+#define SDS_GUESTS (SDS_ADDRESS_MOST + 1)                      /* guests, from address 0 */
+#define SDS_COLLECT_WORK (SDS_GUESTS * SDS_WORK_RECORD)        /* bytes of the work area */
+#define SDS_VALUE 8                                            /* bytes of a value */
+
+/* What sds_collect answers, the first whose condition holds. 6 drops what is half joined of its guest; 1 to 5 alter nothing but the tally. */
+enum sds_collected {
+    SDS_COLLECTED = 0,               /* a value is handed over, or a fragment is kept */
+    SDS_COLLECT_BAD_LENGTH = 1,      /* a work area not of SDS_COLLECT_WORK bytes, or a value not of SDS_VALUE */
+    SDS_COLLECT_BAD_FRAME = 2,       /* sds_read refuses the record, also for its length */
+    SDS_COLLECT_NO_ANSWER = 3,       /* no Successful answer of a guest to a Read: the short form, sent to a guest, another service, a Request, Error or Wait */
+    SDS_COLLECT_NO_TOTAL = 4,        /* a fragment of a message of 0 bytes */
+    SDS_COLLECT_BAD_SHAPE = 5,       /* a fragment that begins at or behind the total, or of another length than its place asks for; an answer without data */
+    SDS_COLLECT_OUT_OF_ORDER = 6     /* a fragment that does not follow the one before it from that guest: another object, ID, total or number */
+};
+
+/* Which bytes are handed over, and whose they are. All fields are 0 where a fragment was kept. */
+struct sds_value {
+    uint8_t kind;        /* enum sds_value_kind */
+    uint8_t guest;       /* its address */
+    uint8_t object;
+    uint8_t id;          /* of the attribute */
+    uint8_t length;      /* 1 to 255 bytes, of an answer in one frame at most 6 */
+    uint8_t zero;
+    uint8_t place[2];    /* where they begin in the record or in the work area, low byte first */
+};
+enum sds_value_kind { SDS_VALUE_NONE = 0, SDS_VALUE_IN_RECORD = 1, SDS_VALUE_IN_WORK = 2 };
+
+/* Counts, which you clear when you like. Each stays at its largest value. */
+struct sds_tally {
+    uint32_t seen;        /* every call, also one that is refused */
+    uint32_t finished;    /* values handed over, whether in one frame or joined */
+    uint32_t dropped;     /* half-joined messages lost: to a fragment out of order, or to a number 0 that begins anew */
+};
+
+/*
+ * One frame. Gives 0, and then all bytes of `value`, a struct sds_value, are set; on a refusal they stay. Fragments that are kept or complete a message
+ * alter `work`, and so does 6; every call alters `tally`, which must not be null. Nothing alters `record`.
+ */
+uint32_t sds_collect(const uint8_t *record, uint64_t record_len, uint8_t *work, uint64_t work_len, uint8_t *value, uint64_t value_len,
+                     struct sds_tally *tally);
+
+static inline uint32_t sds_collect_frame(const uint8_t record[SDS_RECORD], uint8_t work[SDS_COLLECT_WORK], struct sds_value *value,
+                                         struct sds_tally *tally)
+{
+    return sds_collect(record, SDS_RECORD, work, SDS_COLLECT_WORK, (uint8_t *)value, sizeof *value, tally);
+}
+
+/* The bytes that are handed over, of the record and the work area that the value is of. */
+static inline const uint8_t *sds_value_bytes(const struct sds_value *value, const uint8_t *record, const uint8_t *work)
+{
+    return (value->kind == SDS_VALUE_IN_WORK ? work : record) + value->place[0] + 256u * value->place[1];
+}
+
+/* As in sds.h. */
+typedef char sds_value_has_no_gaps[sizeof(struct sds_value) == SDS_VALUE ? 1 : -1];
+typedef char sds_tally_has_no_gaps[sizeof(struct sds_tally) == 12 ? 1 : -1];
+
 #ifdef __cplusplus
 }
 #endif

@@ -138,7 +138,7 @@ static void explain(const uint8_t record[SDS_RECORD])
     if (request == waiting_count)    /* the code is all that tells why */
         width += words_reason(stdout, record);
     if (answer) {
-        printf("%*s", width < WORDS_COLUMN ? WORDS_COLUMN - width : 2, "");
+        words_gap(stdout, width);
         explain_answer(&message, request);
     }
     putchar('\n');

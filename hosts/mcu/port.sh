@@ -1,6 +1,6 @@
-# Sourced by hosts/mcu/build and tests/mcu/run after tools/machine.sh, from the top of the repository: how the module of the proved library
-# and C files become code for a microcontroller. ARCH is v7m (Cortex-M3, M4, M7), v6m (M0, M0+) or rv32i (RISC-V of 32 bits, without a
-# multiplier). Installs Debian's llvm where it is missing.
+# Sourced by hosts/mcu/build and tests/mcu/run after tools/machine.sh, from the top of the repository: how the modules of the proved libraries
+# and C files become code for a microcontroller. LIBRARY is sds or sds_host. ARCH is v7m (Cortex-M3, M4, M7), v6m (M0, M0+) or rv32i (RISC-V
+# of 32 bits, without a multiplier). Installs Debian's llvm where it is missing.
 
 mcu=target/mcu
 clang=$tools/bin/clang
@@ -23,19 +23,30 @@ part() {
     esac
 }
 
-# module_text ARCH TEXT: writes the module as text for ARCH instead of x86-64, with two attributes more: optsize, without which -Os does
+# entry_points LIBRARY: the first is the one that does the library's work, whose size and stack are told; main_entry LIBRARY is that one alone
+entry_points() {
+    case $1 in
+    sds) echo sds_step sds_read sds_write sds_descriptor_size sds_table_check sds_error_code ;;
+    sds_host) echo sds_collect sds_import_line sds_export_record ;;
+    esac
+}
+main_entry() { entry_points "$1" | cut -d' ' -f1; }
+
+# module_text LIBRARY ARCH TEXT: writes the module as text for ARCH instead of x86-64, with two attributes more: optsize, without which -Os does
 # half of its work on a module; and no jumps through tables, so that no address is computed in the code at all and stack.awk sees every
 # call. Each replacement must have found its place, or the module is no longer what this was written for.
 module_text() {
-    target=$(target_of "$1")
-    tools/module "$target" >"$2.plain"
-    sed 's/^attributes #0 = { nounwind/& optsize "no-jump-tables"="true"/' "$2.plain" >"$2"
-    grep -q '^define .*@sds_step(.*) #0 {$' "$2" || fail 'the module has no sds_step'
-    grep -q '^target datalayout = "e-m:e-p:32:32-' "$2" || fail 'the module has not the data layout of a 32-bit processor'
-    grep -q "^target triple = \"${target%%-*}-" "$2" || fail "the module is not for ${target%%-*}"
-    ! grep -E 'x86|"probe-stack"|"target-cpu"' "$2" >&2 || fail 'the module still speaks of x86-64'
-    ! cmp -s "$2.plain" "$2" || fail 'the module has no attributes #0 of nounwind functions'
-    ! grep '^define ' "$2" | grep -v ' #0 {$' >&2 || fail 'a function of the module has attributes of its own'
+    target=$(target_of "$2")
+    tools/module "$target" "$1" >"$3.plain"
+    sed 's/^attributes #0 = { nounwind/& optsize "no-jump-tables"="true"/' "$3.plain" >"$3"
+    for entry in $(entry_points "$1"); do
+        grep -q "^define .*@$entry(.*) #0 {\$" "$3" || fail "the module of $1 has no $entry"
+    done
+    grep -q '^target datalayout = "e-m:e-p:32:32-' "$3" || fail 'the module has not the data layout of a 32-bit processor'
+    grep -q "^target triple = \"${target%%-*}-" "$3" || fail "the module is not for ${target%%-*}"
+    ! grep -E 'x86|"probe-stack"|"target-cpu"' "$3" >&2 || fail 'the module still speaks of x86-64'
+    ! cmp -s "$3.plain" "$3" || fail 'the module has no attributes #0 of nounwind functions'
+    ! grep '^define ' "$3" | grep -v ' #0 {$' >&2 || fail 'a function of the module has attributes of its own'
 }
 
 # Small before fast: flash is what a small part lacks first.

@@ -1,4 +1,4 @@
-"""A gateway and the host's side of its link: frames as records of ten bytes, as the scope page lays them out."""
+"""Programs on links, a gateway among them, and the other side of their link: frames as records of ten bytes, as the scope page lays them out."""
 import os
 import select
 import signal
@@ -16,6 +16,7 @@ EXTENDED, REMOTE, ERROR_FLAG = 0x80000000, 0x40000000, 0x20000000
 WRITE, READ, ACTION, EVENT = 4, 5, 6, 7
 CHANGE_OFF, CHANGE_ON, CHANGE_OFF_ACK, CHANGE_ON_ACK, WRITE_OFF, WRITE_ON, WRITE_OFF_ACK, WRITE_ON_ACK = range(8)  # of the short form
 SUCCESSFUL, ERROR = 1, 2
+NO_LINK = object()
 
 
 class Failure(Exception):
@@ -145,30 +146,30 @@ class Peer:
         self.link.close()
 
 
-class Gateway:
+class Program:
+    """A program on a link. Where none is named that is a socket pair, whose other end is the program's peer; NO_LINK leaves it out."""
+
+    name = "the program"
     started = []
 
-    def __init__(self, device, *options, link=None, program=GATEWAY, fail=None, kind=socket.SOCK_SEQPACKET):
+    def __init__(self, words, link=None, kind=socket.SOCK_SEQPACKET, environment=None, stdin=subprocess.DEVNULL, stdout=subprocess.PIPE):
         self.peer, passed = None, ()
         if link is None:
             ours, theirs = socket.socketpair(socket.AF_UNIX, kind)
             theirs.setsockopt(socket.SOL_SOCKET, socket.SO_SNDBUF, 65536)  # a queue that is soon full, on every machine
             self.peer, passed, link = Peer(ours), (theirs.fileno(),), f"fd:{theirs.fileno()}"
-        environment = dict(os.environ, **({"FAIL": fail} if fail else {}))
-        self.process = subprocess.Popen([*EMULATOR, program, *device.options(), *options, link], pass_fds=passed, env=environment,
-                                        bufsize=0, stdin=subprocess.DEVNULL, stdout=subprocess.PIPE, stderr=subprocess.PIPE)
-        Gateway.started.append(self)
+        self.process = subprocess.Popen([*EMULATOR, *words, *([] if link is NO_LINK else [link])], pass_fds=passed, env=environment,
+                                        bufsize=0, stdin=stdin, stdout=stdout, stderr=subprocess.PIPE)
+        Program.started.append(self)
         if self.peer:
             theirs.close()
-        elif "--trace" in options:
-            self.line(self.process.stdout, f"serving address {device.address} on {link}\n".encode())
 
     def line(self, stream, expected):
         """waits for a line; what other lines come before it does not matter"""
         for line in iter(lambda: read_line(stream), b""):
             if line == expected:
                 return
-        raise Failure(f"no line {expected} of the gateway; {self.last_words()}")
+        raise Failure(f"no line {expected} of {self.name}; {self.last_words()}")
 
     def ends(self, status=0, message=None):
         """waits for the end; gives what it printed"""
@@ -176,11 +177,12 @@ class Gateway:
             out, error = self.process.communicate(timeout=LIMIT)
         except subprocess.TimeoutExpired:
             self.process.kill()
-            raise Failure("the gateway does not end") from None
-        expect(f"exit status ({error.decode().strip()})", self.process.returncode, status)
+            raise Failure(f"{self.name} does not end") from None
+        out, error = (out or b"").decode(), error.decode()
+        expect(f"exit status ({error.strip()})", self.process.returncode, status)
         if message is not None:
-            expect("message", error.decode(), message)
-        return out.decode(), error.decode()
+            expect("message", error, message)
+        return out, error
 
     def last_words(self):
         """for a failure: ends it and gives what it wrote to stderr"""
@@ -188,7 +190,7 @@ class Gateway:
         return "its stderr: " + (self.process.communicate()[1].decode() or "nothing")
 
     def hang_up(self):
-        """the peer leaves; a gateway on a socket pair then ends by itself"""
+        """the peer leaves; a program on a socket pair then ends by itself"""
         self.peer.close()
         return self.ends(0, "")[0]
 
@@ -199,3 +201,13 @@ class Gateway:
     def stop(self, number=signal.SIGTERM):
         self.process.send_signal(number)
         return self.ends(0)
+
+
+class Gateway(Program):
+    name = "the gateway"
+
+    def __init__(self, device, *options, link=None, program=GATEWAY, fail=None, kind=socket.SOCK_SEQPACKET):
+        environment = dict(os.environ, **({"FAIL": fail} if fail else {}))
+        super().__init__([program, *device.options(), *options], link, kind, environment)
+        if not self.peer and "--trace" in options:
+            self.line(self.process.stdout, f"serving address {device.address} on {link}\n".encode())

@@ -1,6 +1,6 @@
 /*
- * linux.c: what hash.c needs of hosts/mcu/qemu/host.h on a RISC-V of 32 bits, as a program of Linux, which qemu-riscv32 runs. The stream, in C,
- * multiplies, and this part cannot: the routine that its compiler then calls is here.
+ * linux.c: what hash.c needs of hosts/mcu/qemu/host.h on a RISC-V of 32 bits, as a program of Linux, which qemu-riscv32 runs. The streams, in C,
+ * multiply and divide, and this part cannot: the routines that their compiler then calls are here.
  */
 #include "host.h"
 
@@ -38,6 +38,15 @@ uint32_t __mulsi3(uint32_t a, uint32_t b)
         if (b & 1)
             product += a;
     return product;
+}
+
+/* of bytes, so this is quick enough */
+uint32_t __umodsi3(uint32_t a, uint32_t b);
+uint32_t __umodsi3(uint32_t a, uint32_t b)
+{
+    while (a >= b)
+        a -= b;
+    return a;
 }
 
 int main(void);

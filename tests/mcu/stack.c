@@ -1,31 +1,37 @@
 /*
- * stack.c: CALLS calls of the random stream on a Cortex-M, before each of which the free stack is painted. Prints the most bytes that a
- * call of sds_step took of it. It is linked with --wrap=sds_step.
+ * stack.c: CALLS calls of a random stream on a Cortex-M, before each of which the free stack is painted. Prints the most bytes that a
+ * call of ENTRY, an entry point, took of it. It is linked with --wrap=ENTRY.
  */
 #include "host.h"
+#include "player.h"
 #include "start.h"
-#include "stream.h"
+
+#ifndef ENTRY
+#error "ENTRY is given on the command line"
+#endif
+#define JOINED(front, name) front##name
+#define NAME(front, name) JOINED(front, name)
+#define QUOTED(name) #name
+#define TEXT(name) QUOTED(name)
 
 enum { PAINT = 0x5AFE57AC, WORDS = 512 /* painted: more than a call takes, and less than the room for the stack */ };
 
-static struct stream stream;
-
 extern uint32_t bss_end[]; /* mcu.ld: the stack must stay above */
 
-/* the stack pointer as sds_step found it, or 0 where it was not called; and where the paint begins */
+/* the stack pointer as ENTRY found it, or 0 where it was not called; and where the paint begins */
 uint32_t *found;
 static uint32_t *bottom;
 
-uint32_t __wrap_sds_step(void);
+uint32_t NAME(__wrap_, ENTRY)(void);
 
-/* Notes the stack pointer and goes on into sds_step, whose arguments stay where they are. */
-__attribute__((naked)) uint32_t __wrap_sds_step(void)
+/* Notes the stack pointer and goes on into ENTRY, whose arguments stay where they are. */
+__attribute__((naked)) uint32_t NAME(__wrap_, ENTRY)(void)
 {
     __asm__("push {r0, r1}\n"
             "add r1, sp, #8\n"
             "ldr r0, =found\n"
             "str r1, [r0]\n"
-            "ldr r0, =__real_sds_step\n"
+            "ldr r0, =" TEXT(NAME(__real_, ENTRY)) "\n"
             "mov ip, r0\n"
             "pop {r0, r1}\n"
             "bx ip\n"
@@ -43,7 +49,7 @@ __attribute__((noinline)) static void paint(void)
         *word = PAINT;
 }
 
-/* the bytes below what sds_step found that are painted over */
+/* the bytes below what ENTRY found that are painted over */
 static uint32_t depth(void)
 {
     const volatile uint32_t *word = bottom;
@@ -55,12 +61,12 @@ static uint32_t depth(void)
 int main(void)
 {
     uint32_t most = 0;
-    stream_start(&stream, SEED);
+    player_start(SEED);
     for (uint32_t i = 0; i < CALLS; i++) {
-        stream_next(&stream);
+        player_next();
         found = 0;
         paint();
-        stream_call(&stream);
+        player_call();
         uint32_t bytes = found ? depth() : 0;
         if (bytes > most)
             most = bytes;

@@ -1,4 +1,5 @@
 #include <string.h>
+#include "mix.h"
 #include "short.h"
 #include "stream.h"
 
@@ -369,20 +370,10 @@ uint32_t stream_call(struct stream *s)
     return stream_call_of(&core, &s->call, &s->areas);
 }
 
-/* FNV-1a */
-static uint32_t mix(uint32_t hash, const void *bytes, uint32_t count)
-{
-    const uint8_t *byte = bytes;
-    for (uint32_t i = 0; i < count; i++)
-        hash = (hash ^ byte[i]) * 16777619u;
-    return hash;
-}
-
 uint32_t stream_hash(const struct stream *s, uint32_t hash, uint32_t result)
 {
     const struct areas *a = &s->areas;
-    const uint8_t bytes[4] = {(uint8_t)result, (uint8_t)(result >> 8), (uint8_t)(result >> 16), (uint8_t)(result >> 24)};
-    hash = mix(hash, bytes, 4);
+    hash = mix_number(hash, result);
     hash = mix(hash, a->record, sizeof a->record);
     hash = mix(hash, a->message, sizeof a->message);
     hash = mix(hash, a->out, 2 * SDS_RECORD);

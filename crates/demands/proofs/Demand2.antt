@@ -107,7 +107,7 @@ module _ (c : Call) where
       }
 
   -- a frame that no check refuses passes checks 1 to 12
-  passes : ((n : ℕ) → holdsAt (checksOf c) n ≡ false) → firstOf (planChecks (settingOf c) (c .frame)) ≡ 0
+  pub passes : ((n : ℕ) → holdsAt (checksOf c) n ≡ false) → firstOf (planChecks (settingOf c) (c .frame)) ≡ 0
   passes free =
       none-holds (planChecks (settingOf c) (c .frame)) refl .1
       (λ n. holds-append (planChecks (settingOf c) (c .frame)) ((outOfOrder (messageOf (c .frame)) (c .given .work), 14) ∷ []) n (free n))

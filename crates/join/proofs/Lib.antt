@@ -3,4 +3,5 @@ pub mod Keys
 pub mod Records
 pub mod Joins
 pub mod Parts
+pub mod Two
 pub mod Determined

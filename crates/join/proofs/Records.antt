@@ -2,15 +2,15 @@
 use Prim.Native.Nat.{ℕ, _+_, _*_, _-_, _<_, _≤_}
 use mathlib.Core.Path.{_≡_, refl, sym, ap, _∙_}
 use mathlib.Core.Logic.{_≢_}
-use mathlib.Core.Bool.{cond}
-use mathlib.Core.List.{List, [], _∷_}
+use mathlib.Core.Bool.{true, cond}
+use mathlib.Core.List.{List, [], _∷_, _++_}
 use native.Mathlib.Omega.{arith}
 use lib.ListN.{length, take, drop, length-append, length-take, length-drop}
-use lib.Seq.{getD-drop}
+use lib.Seq.{getD-drop, take-take, take-length}
 use borrow.Author.Tests.{leb-true}
 use Rattle.laws.specs.Bytes.{byteAt}
 use Rattle.laws.specs.Put.{put, Agree}
-use Rattle.laws.proofs.Put.{length-put, put-within, put-before, put-behind, untouched, put-both, same-part, part-put, one-put, one-beside}
+use Rattle.laws.proofs.Put.{length-put, put-within, put-before, put-behind, untouched, put-both, same-part, part-put, take-put, one-put, one-beside}
 use Rattle.laws.proofs.Tests.{split}
 use Rattle.join.specs.Work.{recordSize, headSize, dataSize, secondKey, Joiner, Piece, Work, Joined, kept, done, lost, load, astray, last, joined, withData, headOf, dropped, areaAfter}
 use Rattle.join.specs.History.{Fit}
@@ -271,3 +271,34 @@ joined-length j p f r h =
     let e = leb-true (p .total) (j .width * p .number + j .width) t in
     simp (g, t, length-append, length-take) (omega (arith, f .shaped .inside, f .shaped .fit, f .room)))
     (λ t. simp (g, t) tt))
+
+-- where the last fragment's bytes are stored too, the joined bytes stand in the record, from its first data byte on
+pub stored-last : (j : Joiner) → j .storesLast ≡ true → (base : ℕ) (p : Piece) → Fit j p → (l : List ℕ) → base + recordSize ≤ length l
+    → (bs : List ℕ) → joined j p (load j base l) ≡ done bs → take (p .total) (drop (base + headSize) (areaAfter j base p (done bs) l)) ≡ bs
+unfolding joined areaAfter load
+stored-last j s base p f l h bs e =
+    split (astray j (load j base l) p)
+    (λ t. let q : lost ≡ done bs = simp t at e in let n : _≡_ {A = ℕ} 0 1 = cc in absurd (omega arith))
+    (λ g. split (last j p)
+    (λ t.
+    let at = base + headSize in
+    let k = j .width * p .number in
+    let w : List ℕ = withData j base p l in
+    let room = data-room j p f in
+    let end : k + length (p .bytes) ≡ p .total = omega (arith, leb-true (p .total) (k + j .width) t, f .shaped .inside, f .shaped .fit) in
+    let long : length w ≡ length l = data-length j base p f l h in
+    let part : List ℕ = take (p .total) (drop at l) in
+    let whole : length part ≡ p .total = simp (length-take, length-drop) (omega (arith, f .room)) in
+    let filled : List ℕ = put part k (p .bytes) in
+    let all : take (p .total) filled ≡ filled =
+    ap (λ (n : ℕ). take n filled) (sym (length-put part k (p .bytes) (omega (arith, whole, end)) ∙ whole)) ∙ take-length filled in
+    let its : done (take k (take dataSize (drop at l)) ++ p .bytes) ≡ done bs = simp (g, t) at e in
+    let same : take k (take dataSize (drop at l)) ++ p .bytes ≡ bs = cc in
+    simp s
+    (same-part (λ i. at ≤ i) (put w base (0 ∷ [])) w at (p .total) (omega (arith, f .room, long, length-put w base (0 ∷ []) (omega (arith, long)))) (omega (arith, f .room, long)) (λ i a b. a)
+    (untouched (λ i. at ≤ i) w base (0 ∷ []) (omega (arith, long)) (λ i a b c. omega arith))
+    ∙ part-put l at (p .total) k (p .bytes) (omega (arith, f .room)) (omega (arith, end))
+    ∙ sym all
+    ∙ take-put part k (p .bytes) (p .total) (omega (arith, whole, end)) end
+    ∙ rw (take-take k (p .total) (drop at l) (omega (arith, end)), ← take-take k dataSize (drop at l) (omega (arith, room))) same))
+    (λ t. let q : kept ≡ done bs = simp (g, t) at e in let n : _≡_ {A = ℕ} 0 1 = cc in absurd (omega arith)))

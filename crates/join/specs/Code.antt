@@ -5,7 +5,7 @@ use mathlib.Core.Bool.{Bool, _&&_}
 use mathlib.Core.List.{List, _++_}
 use lib.ListN.{take, drop}
 use lib.Dec.{eqb, leb, ltb}
-use Rattle.join.specs.Work.{headSize}
+use Rattle.join.specs.Work.{recordSize, headSize, dataSize}
 
 -- a fragment's data end inside the area, and its next number is a byte
 unfoldable pub keepFits : (work at w number body : ℕ) → Bool
@@ -14,6 +14,10 @@ keepFits work at w number body = ltb number 255 && leb (at + headSize + w * numb
 -- what is held before a fragment's place is inside the area, and the part is just as long as the joined bytes
 unfoldable pub joinFits : (work at w number body part : ℕ) → Bool
 joinFits work at w number body part = leb (at + headSize + w * number) work && eqb part (w * number + body)
+
+-- the whole record is inside the area, a fragment's data end inside the record's, and its next number is a byte
+unfoldable pub recordFits : (work at w number body : ℕ) → Bool
+recordFits work at w number body = ltb number 255 && leb (at + recordSize) work && leb (w * number + body) dataSize
 
 -- the joined bytes, read off the area
 abbrev pub joinedFrom : List ℕ → (at w number : ℕ) → List ℕ → List ℕ

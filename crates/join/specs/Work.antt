@@ -52,6 +52,10 @@ pub record Joiner : Type 0 where
 abbrev pub simple : ℕ → Joiner
 simple w = record { width = w; keyed = 1; storesLast = false }
 
+-- 02, 2026-07's: the key is the ID and the object, which byte 259 holds, "and the last fragment's bytes are stored too"
+abbrev pub collecting : ℕ → Joiner
+collecting w = record { width = w; keyed = 2; storesLast = true }
+
 -- a fragment: which message it is of, its number there, and its data
 pub record Piece : Type 0 where
   pub key : List ℕ

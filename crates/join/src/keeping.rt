@@ -16,7 +16,7 @@ use crate::place::room_from;
 use crate::place::start_of;
 
 // Puts bytes into an area, from a place on.
-fn put_at(area: &mut [u8], place: usize, body: &[u8])
+pub(crate) fn put_at(area: &mut [u8], place: usize, body: &[u8])
     requires { ⌜ place + length (now body) ≤ length (now area) ⌝ }
     ensures { λ _. ⌜ now (area .exit) ≡ put (now (area .entry)) place (now (body .entry)) ⌝ }
 {

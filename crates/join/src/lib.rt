@@ -1,8 +1,10 @@
-// Joining the fragments of a message in a work record (01, "Object table, store, work area"), over the bytes per fragment and with a key of one byte.
+// Joining the fragments of a message in a work record (01, "Object table, store, work area"), over the bytes per fragment, with a key of one byte
+// or of two.
 mod joining;
 mod keeping;
 mod order;
 mod place;
+mod second;
 
 pub use joining::join_into;
 pub use keeping::clear;
@@ -13,4 +15,9 @@ pub use order::is_shaped;
 pub use place::AREA;
 pub use place::RECORD;
 pub use place::RECORDS;
+pub use place::data_place;
 pub use place::place_of;
+pub use second::finish;
+pub use second::is_astray_of_two;
+pub use second::is_filling;
+pub use second::keep_of_two;

@@ -1,8 +1,8 @@
 // Places: of a record in the work area, and of a fragment's data among the joined bytes.
 ghost use mathlib.Core.Path.{_≡_};
-ghost use Prim.Native.Nat.{_-_};
+ghost use Prim.Native.Nat.{_+_, _-_};
 ghost use Rattle.join.specs.Code.{Start};
-ghost use Rattle.join.specs.Work.{base};
+ghost use Rattle.join.specs.Work.{base, headSize};
 
 // "32 records of 260 bytes, one per object".
 pub const RECORD: usize = 260;
@@ -19,6 +19,11 @@ pub(crate) const TOTAL: usize = 2;
 pub(crate) const NEXT: usize = 3;
 
 pub(crate) const HEAD: usize = 4;
+
+pub(crate) const DATA: usize = 255;
+
+// "byte 259 now holds the object" (02, 2026-07).
+pub(crate) const SECOND: usize = HEAD + DATA;
 
 // The place of an object's record: 4 and 256 times the object, by shifts, for a part without a multiplier (02, 2026-03). The larger summand has 16 bits,
 // because of two that are as wide as their sum an optimizer makes one product again (docs/DECISIONS.md).
@@ -40,4 +45,11 @@ pub(crate) fn room_from(size: usize, at: usize) -> usize
     ensures { λ r. ⌜ r ≡ size - at ⌝ }
 {
     if size < at { 0 } else { size - at }
+}
+
+// The place of the data in an object's record.
+pub fn data_place(object: u8) -> usize
+    ensures { λ r. ⌜ r ≡ base object + headSize ⌝ }
+{
+    place_of(object) + HEAD
 }

@@ -3,3 +3,4 @@ pub mod Checks
 pub mod Bytes
 pub mod Put
 pub mod Mixing
+pub mod Counts

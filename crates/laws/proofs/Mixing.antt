@@ -12,7 +12,7 @@ use Rattle.laws.specs.Mixing.{those, isOf, inputsOf, answersOf, serially
 use Rattle.laws.proofs.Tests.{split}
 
 module _ {X : Type 0} where
-  those-append : (p : X → Bool) (xs ys : List X) → those p (xs ++ ys) ≡ those p xs ++ those p ys
+  pub those-append : (p : X → Bool) (xs ys : List X) → those p (xs ++ ys) ≡ those p xs ++ those p ys
   those-append p [] ys = refl
   those-append p (x ∷ xs) ys = split (p x) (λ t. simp t (ap {B = List X} (λ l. x ∷ l) (those-append p xs ys))) (λ f. simp f (those-append p xs ys))
 
@@ -25,6 +25,17 @@ is-self o x e = rw e (eq-eqb o o refl)
 
 pub is-other : (o : ℕ) (x : Option ℕ) → isOf o x ≡ false → x ≢ some o
 is-other o x e h = true≢false (sym (is-self o x h) ∙ e)
+
+-- inputs in two parts: the second goes on from the state that the first leaves
+module _ {F S : Type 0} (next : F → S → S) where
+  pub run-append : (fs gs : List F) (s : S) → run next (fs ++ gs) s ≡ run next gs (run next fs s)
+  run-append [] gs s = refl
+  run-append (f ∷ fs) gs s = run-append fs gs (next f s)
+
+  pub trace-append : {A : Type 0} (answer : F → S → A) (fs gs : List F) (s : S)
+      → trace next answer (fs ++ gs) s ≡ trace next answer fs s ++ trace next answer gs (run next fs s)
+  trace-append {A} answer [] gs s = refl
+  trace-append {A} answer (f ∷ fs) gs s = ap {B = List (F × A)} (λ ts. (f, answer f s) ∷ ts) (trace-append answer fs gs (next f s))
 
 -- What a machine owes for its inputs to be mixed. `Same o s t`: s and t agree on all that belongs to o. `Good`: what every state of a run has
 pub record Local {F S A : Type 0} (next : F → S → S) (answer : F → S → A) (owner : F → Option ℕ) (Good : S → Type 0) (Same : ℕ → S → S → Type 0) : Type 0 where

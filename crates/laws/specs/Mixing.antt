@@ -1,6 +1,6 @@
 -- A machine whose inputs belong to owners, fed in any order.
 use Prim.Native.Nat.{ℕ, suc}
-use mathlib.Core.Bool.{Bool, false, cond}
+use mathlib.Core.Bool.{Bool, true, false, cond, not}
 use mathlib.Core.List.{List, [], _∷_, _++_}
 use mathlib.Core.Option.{Option, none, some}
 use lib.Dec.{eqb}
@@ -16,6 +16,11 @@ abbrev pub isOf : ℕ → Option ℕ → Bool
 isOf o none = false
 isOf o (some k) = eqb k o
 
+-- whether there is an owner
+abbrev pub isOwned : Option ℕ → Bool
+isOwned none = false
+isOwned (some k) = true
+
 module _ {F : Type 0} (owner : F → Option ℕ) where
   -- the inputs of one owner, in their order
   abbrev pub inputsOf : ℕ → List F → List F
@@ -24,6 +29,10 @@ module _ {F : Type 0} (owner : F → Option ℕ) where
   -- inputs with their answers: those of one owner
   abbrev pub answersOf : {A : Type 0} → ℕ → List (F × A) → List (F × A)
   answersOf o ts = those (λ t. isOf o (owner (t .0))) ts
+
+  -- the inputs of no owner, in their order
+  abbrev pub nobodys : List F → List F
+  nobodys fs = those (λ f. not (isOwned (owner f))) fs
 
   -- the owners one after another, in the order of a list
   abbrev pub serially : List ℕ → List F → List F

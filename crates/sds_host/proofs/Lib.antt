@@ -1,3 +1,4 @@
 pub mod Buffers
+pub mod Values
 pub mod Promises
 pub mod Determined

@@ -1,7 +1,16 @@
-// The border to C of what a host uses beside the device: byte slices and numbers, as in sds. Nothing is asked of a caller.
+// The border to C of what a host uses beside the device: byte slices and numbers, as in sds, and a tally. Nothing is asked of a caller.
 ghost use mathlib.Core.Path.{_≡_};
+ghost use mathlib.Core.Bool.{cond};
+ghost use lib.Dec.{eqb};
+ghost use lib.ListN.{length};
 ghost use Rattle.candump.specs.Exporting.{putLeft};
-ghost use Rattle.sds_host.specs.Border.{borderImportNumber, borderImport, borderExportAnswer};
+ghost use Rattle.sds_host.specs.Border.{borderImportNumber, borderImport, borderExportAnswer, valueBytes, valueSize, BorderCollected};
+use collect::Collected;
+use collect::Tally;
+use collect::Value;
+
+// The bytes of a value.
+pub const VALUE: usize = 8;
 
 // The record of a line of a can-utils log. Refused are 5 (not ten bytes), before the others; then 1 to 4, as import_line has them; and the record stays.
 #[no_mangle]
@@ -26,4 +35,86 @@ pub extern "C" fn sds_export_record(frame: &[u8], line: &mut [u8]) -> u32
 {
     let put = candump::put_line(frame, line);
     (put.number as u32) + 256 * (put.len as u32)
+}
+
+// The bytes of what is handed over: kind, guest, object, ID, length, 0, and the place, its low byte first.
+fn value_bytes(value: Value) -> [u8; 8]
+    ensures { λ r. ⌜ r ≡ valueBytes value ⌝ }
+{
+    match value {
+        Value::Nothing => [0, 0, 0, 0, 0, 0, 0, 0],
+        Value::Whole {
+            guest,
+            object,
+            id,
+            len,
+        } => [1, guest, object, id, len, 0, collect::WHOLE_PLACE as u8, 0],
+        Value::Complete {
+            guest,
+            object,
+            id,
+            len,
+        } => {
+            let place = join::data_place(guest);
+            let low = (place % 256) as u8;
+            let high = (place / 256 % 256) as u8;
+            [2, guest, object, id, len, 0, low, high]
+        }
+    }
+}
+
+// Shows what is handed over; a refusal leaves the bytes.
+fn show(c: Collected, value: &mut [u8])
+    requires { ⌜ length (now value) ≡ valueSize ⌝ }
+    ensures { λ _. ⌜ now (value .exit) ≡ cond (eqb (c .number) 0) (valueBytes (c .value)) (now (value .entry)) ⌝ }
+{
+    if c.number != 0 {
+        return;
+    }
+    let what = c.value;
+    let bytes = value_bytes(what);
+    bytes::copy(&bytes, value);
+}
+
+// What a call leaves besides the lent bytes.
+pub struct Outcome {
+    pub number: u32,
+    pub tally: Tally,
+}
+
+// One frame into the collector, and the tally after it: all that sds_collect does but to read and write the tally where it stands.
+pub fn collected(frame: &[u8], work: &mut [u8], value: &mut [u8], t: Tally) -> Outcome
+    ensures { λ r. ⌜ BorderCollected (now (frame .entry)) (now (work .entry)) (now (value .entry)) t (r .number) (now (work .exit)) (now (value .exit)) (r .tally) ⌝ }
+{
+    if value.len() != VALUE {
+        let c = Collected {
+            number: 1,
+            value: Value::Nothing,
+            dropped: false,
+        };
+        let tally = collect::tallied(t, c);
+        return Outcome { number: 1, tally };
+    }
+    let c = collect::collect(frame, work);
+    show(c, value);
+    let tally = collect::tallied(t, c);
+    Outcome {
+        number: c.number as u32,
+        tally,
+    }
+}
+
+// One frame into the collector (02, 2026-07). The number of the refusal or 0; the value's bytes are set where it is 0; every call alters the tally.
+#[no_mangle]
+pub extern "C" fn sds_collect(
+    frame: &[u8],
+    work: &mut [u8],
+    value: &mut [u8],
+    tally: &mut Tally,
+) -> u32
+    ensures { λ r. ⌜ BorderCollected (now (frame .entry)) (now (work .entry)) (now (value .entry)) (now (tally .entry)) r (now (work .exit)) (now (value .exit)) (now (tally .exit)) ⌝ }
+{
+    let o = collected(frame, work, value, *tally);
+    *tally = o.tally;
+    o.number
 }

@@ -1,0 +1,9 @@
+pub mod Groups
+pub mod Cuts
+pub mod Taking
+pub mod Sound
+pub mod Mixed
+pub mod Tallies
+pub mod Shown
+pub mod Promises
+pub mod Determined

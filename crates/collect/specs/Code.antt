@@ -1,0 +1,49 @@
+-- The refusals as the code groups them: by the form of the message, which has passed 1 and 2.
+use Prim.Native.Nat.{ℕ, _≤_}
+use mathlib.Core.Path.{_≡_}
+use mathlib.Core.Bool.{false, cond}
+use mathlib.Core.List.{List, []}
+use lib.Dec.{eqb}
+use Rattle.octets.specs.declared.Data.{Data}
+use Rattle.codec.specs.declared.Subject.{Subject}
+use Rattle.codec.specs.declared.Message.{Message}
+use Rattle.codec.specs.declared.Message.the-variants.{Short, Plain, Fragment}
+use Rattle.codec.specs.Names.{mostAddress}
+use Rattle.join.specs.Work.{base, Piece, last, kept, done, areaAfter}
+use Rattle.collect.specs.declared.Value.{Value}
+use Rattle.collect.specs.declared.Value.the-variants.{Nothing, Complete}
+use Rattle.collect.specs.Checks.{collectSize, answersRead, wrongPiece, joiner, pieceOf}
+use Rattle.collect.specs.Step.{Judged, nobodys, spoilt, whole, piece}
+
+-- 3 and 5 of an answer in one frame
+unfoldable pub wholeJudged : Subject → ℕ → Judged
+wholeJudged u n = cond (answersRead u) (cond (eqb n 0) (spoilt (u .address) 5) (whole u n)) (nobodys 3)
+
+-- 3, 4 and 5 of a fragment
+unfoldable pub fragmentJudged : Subject → ℕ → ℕ → Data → Judged
+fragmentJudged u number total b =
+    cond (answersRead u)
+    (cond (eqb total 0) (spoilt (u .address) 4)
+    (cond (wrongPiece total number (b .len)) (spoilt (u .address) 5) (piece u (pieceOf u number total b))))
+    (nobodys 3)
+
+unfoldable pub messageJudged : Message → Judged
+messageJudged (Short dir address service) = nobodys 3
+messageJudged (Plain u b) = wholeJudged u (b .len)
+messageJudged (Fragment u number total b) = fragmentJudged u number total b
+
+-- what joining needs: a work area of its size, a guest that has a record there, and a fragment of its shape
+pub record Placed (size guest : ℕ) : Type 0 where
+  pub sized : size ≡ collectSize
+  pub below : guest ≤ mostAddress
+
+pub record Ready (size guest total number len : ℕ) : Type 0 where
+  pub placed : Placed size guest
+  pub right : wrongPiece total number len ≡ false
+
+-- a fragment that is in order: what is handed over, and the work area
+unfoldable pub takenValue : Subject → Piece → Value
+takenValue u p = cond (last joiner p) (Complete (u .address) (u .object) (u .id) (p .total)) Nothing
+
+unfoldable pub takenWork : Subject → Piece → List ℕ → List ℕ
+takenWork u p work = areaAfter joiner (base (u .address)) p (cond (last joiner p) (done []) kept) work

@@ -1,0 +1,55 @@
+use Rattle.sds_host.proofs.Values.{no-value, with-value}
+use borrow.Author.Needs.{needs}
+use Rattle.sds_host.proofs.collected.Statement.{statement}
+use Rattle.sds_host.proofs.collected.Tie as tie
+
+tallied-requires : tie.Need-tallied-requires
+tallied-requires c κs = search needs
+
+returns : tie.Need-returns
+returns c =
+    let size = c .before in
+    let a = size .before .before .before .before .args in
+    no-value (a .frame .now) (a .work .now) (a .value .now) (a .t) (size .if1 .taken) _ (c .tallied .ensures)
+
+collect-requires : tie.Need-collect-requires
+collect-requires c κs = search needs
+
+show-requires : tie.Need-show-requires
+show-requires c κs = search needs
+
+tallied-requires-2 : tie.Need-tallied-requires-2
+tallied-requires-2 c κs = search needs
+
+cast-t17 : tie.Need-cast-t17
+cast-t17 c = search needs
+
+same-length : tie.Need-same-length
+same-length c = search needs
+
+same-length-2 : tie.Need-same-length-2
+same-length-2 c = search needs
+
+returns-2 : tie.Need-returns-2
+returns-2 c =
+    let tally = c .before in
+    let show = tally .before .before .before in
+    let collect = show .before .before .before .before in
+    let size = collect .before .before in
+    let a = size .before .before .before .before .args in
+    with-value (a .frame .now) (a .work .now) (a .value .now) (a .t) (size .if1 .left)
+    _ (collect .collect .ensures .0) _ (collect .collect .ensures .1) _ (show .show .ensures) _ (tally .tallied2 .ensures)
+
+pub collected-spec : {M : Type 1} → statement M
+collected-spec =
+    tie.close
+    (tie.spec
+    tallied-requires
+    returns
+    collect-requires
+    show-requires
+    tallied-requires-2
+    cast-t17
+    same-length
+    same-length-2
+    returns-2)
