@@ -20,11 +20,14 @@ $1 == "known" {
     exact = a == 10 && b == 22
     next
 }
+# Lines of one name, which stand together, are one row: the sum of their calls.
 {
-    n++
-    call[n] = $1; name[n] = $2; records[n] = $3
-    core[n] = core_of[$1, $2, $3] = a
-    plain[n] = plain_of[$1, $2, $3] = b
+    if (!(($1, $2, $3) in core_of)) {
+        n++
+        call[n] = $1; name[n] = $2; records[n] = $3
+    }
+    core[n] = core_of[$1, $2, $3] += a
+    plain[n] = plain_of[$1, $2, $3] += b
 }
 
 END {

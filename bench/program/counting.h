@@ -14,6 +14,9 @@ struct lent {
     uint8_t message[SDS_MESSAGE];
     uint8_t record[SDS_RECORD];
     uint8_t line[SDS_LINE_ROOM];
+    uint8_t collected[SDS_COLLECT_WORK];    /* the collector's work area */
+    uint8_t value[SDS_VALUE];
+    struct sds_tally tally;
 };
 
 /* What a row lends, and the buffers that are lent: each call finds `before` in `lent`, at the same addresses. */
@@ -47,5 +50,6 @@ void step_rows(void);
 void codec_rows(void);
 void table_rows(void);
 void line_rows(void);
+void collect_rows(void);
 
 #endif

@@ -25,5 +25,6 @@ int main(int argc, char **argv)
     table_rows();
     codec_rows();
     line_rows();
+    collect_rows();
     return 0;
 }

@@ -2,7 +2,7 @@
 # whose counts are known, 10 and 22: where they are counted otherwise, nothing is believed.
     .text
     .globl mark_begin, mark_end
-    .globl empty_step, empty_codec, empty_number, empty_check
+    .globl empty_step, empty_codec, empty_number, empty_check, empty_collect
     .globl straight_10, loop_22
 mark_begin:
     ret
@@ -12,6 +12,7 @@ empty_step:
 empty_codec:
 empty_number:
 empty_check:
+empty_collect:
     ret
 straight_10:
     .rept 8

@@ -1,6 +1,6 @@
 /*
  * Calls all six entry points of the device's archive and checks the cases that the scope page marks P, with every byte of every lent buffer. Then what
- * the headers add to them: structs, and records of CAN frames. Then the two of the host's archive, of captures.
+ * the headers add to them: structs, and records of CAN frames. Then the three of the host's archive: of captures, and the collector.
  */
 #include <stdio.h>
 #include <string.h>
@@ -175,6 +175,39 @@ static void captures(void)
     check("record of nine bytes", sds_export_record(p1, SDS_RECORD - 1, nine, 0) == SDS_RECORD_BAD_LENGTH);
 }
 
+/* 000's worked Read, 5.3.1, into the collector: what is handed over, every byte of the work area and of the value, and the tally */
+static uint8_t collected[SDS_COLLECT_WORK], collected_is[SDS_COLLECT_WORK];
+static struct sds_tally tally;
+
+static void collect(const char *name, const uint8_t record[SDS_RECORD], uint32_t number, const uint8_t value_is[SDS_VALUE], struct sds_tally tally_is)
+{
+    struct sds_value value = {9, 9, 9, 9, 9, 9, {9, 9}};
+    uint32_t answer = sds_collect_frame(record, collected, &value, &tally);
+    check(name, answer == number && !memcmp(&value, value_is, sizeof value) && !memcmp(collected, collected_is, sizeof collected) &&
+                    !memcmp(&tally, &tally_is, sizeof tally));
+}
+
+#define VALUE(...) ((const uint8_t[SDS_VALUE]){__VA_ARGS__})
+#define TALLY(...) ((struct sds_tally){__VA_ARGS__})
+
+static void collects(void)
+{
+    uint8_t *its = collected_is + 32 * SDS_WORK_RECORD, seven[SDS_VALUE - 1] = {1};
+    collect("5.3.1.1, a request", RECORD(0x20, 0xA2, 0, 56), SDS_COLLECT_NO_ANSWER, VALUE(9, 9, 9, 9, 9, 9, 9, 9), TALLY(1, 0, 0));
+    memcpy(its, (const uint8_t[]){1, 56, 11, 1, 'G', 'A', 'T', 'E'}, 8);
+    collect("5.3.1.2, kept", RECORD(0xA0, 0xA8, 0x60, 56, 0, 11, 'G', 'A', 'T', 'E'), 0, VALUE(0), TALLY(2, 0, 0));
+    its[3] = 2, memcpy(its + 8, " SEN", 4);
+    collect("5.3.1.3, kept", RECORD(0xA0, 0xA8, 0x60, 56, 1, 11, ' ', 'S', 'E', 'N'), 0, VALUE(0), TALLY(3, 0, 0));
+    collect("a whole answer between", RECORD(0xA0, 0xA3, 0x40, 8, 3), 0, VALUE(1, 32, 0, 8, 1, 0, 4, 0), TALLY(4, 1, 0));
+    its[0] = 0, memcpy(its + 12, "SOR", 3);
+    collect("5.3.1.4, complete", RECORD(0xA0, 0xA7, 0x60, 56, 2, 11, 'S', 'O', 'R'), 0, VALUE(2, 32, 0, 56, 11, 0, 0x84, 0x20), TALLY(5, 2, 0));
+    check("its bytes", !memcmp(sds_value_bytes((const struct sds_value *)VALUE(2, 32, 0, 56, 11, 0, 0x84, 0x20), NULL, collected), "GATE SENSOR", 11));
+    collect("once more", RECORD(0xA0, 0xA7, 0x60, 56, 2, 11, 'S', 'O', 'R'), SDS_COLLECT_OUT_OF_ORDER, VALUE(9, 9, 9, 9, 9, 9, 9, 9), TALLY(6, 2, 0));
+    check("value of seven bytes", sds_collect(NULL, 0, collected, sizeof collected, seven, sizeof seven, &tally) == SDS_COLLECT_BAD_LENGTH && seven[0] == 1 &&
+                                      tally.seen == 7);
+    check("no work area", sds_collect(NULL, 0, NULL, 0, seven, 0, &tally) == SDS_COLLECT_BAD_LENGTH && tally.seen == 8);
+}
+
 int main(void)
 {
     check("table", sds_table_check(table, sizeof table, STORE) == 0 && sds_table_check(table, sizeof table - 1, STORE) == 1 &&
@@ -186,6 +219,7 @@ int main(void)
     fields();
     short_services();
     captures();
+    collects();
     frames();
     return failed;
 }

@@ -1,12 +1,12 @@
 -- The ten bytes of a written record, one by one.
-use Prim.Native.Nat.{ℕ, suc, _+_, _-_, _%_, _≤_}
+use Prim.Native.Nat.{ℕ, suc, _+_, _-_, _%_, _≤_, _<_}
 use mathlib.Core.Path.{_≡_, refl, sym, ap, _∙_}
-use mathlib.Core.Bool.{Bool, true, cond, _&&_, and-eq-true-iff}
-use mathlib.Core.List.{List, _∷_, _++_}
+use mathlib.Core.Bool.{Bool, true, cond, _&&_, and-false, and-eq-true-iff}
+use mathlib.Core.List.{List, [], _∷_, _++_}
 use native.Mathlib.Omega.{arith}
 use lib.ListN.{length, take, drop, length-take, length-drop}
 use lib.Seq.{take-all, getD-drop}
-use borrow.Author.Tests.{eq-eqb}
+use borrow.Author.Tests.{eq-eqb, ne-eqb, le-leb, lt-leb}
 use Rattle.laws.specs.Bytes.{padded}
 use Rattle.laws.proofs.Bytes.{length-padded}
 use Rattle.laws.proofs.Tests.{split}
@@ -16,9 +16,10 @@ use Rattle.octets.proofs.Datas.{tidy-most, tidy-more, tidy-data, bytes-data, by
 use Rattle.codec.specs.declared.Subject.{Subject}
 use Rattle.codec.specs.declared.Message.{Message}
 use Rattle.codec.specs.declared.Message.the-variants.{Short, Plain, Fragment}
-use Rattle.codec.specs.Names.{frameSize}
+use Rattle.codec.specs.Names.{frameSize, payloadPlace, mostDlc}
+use Rattle.codec.specs.Reading.{payloadTo}
 use Rattle.codec.specs.Writing.{subjectFits, shortFits, carried, longHeader, longFrame, frameOf, imageOf, writeNumber, writtenOf}
-use Rattle.codec.specs.Code.{prefixed, unprefixed, cutOf, longPlaces, shortPlaces, putLong, putShort}
+use Rattle.codec.specs.Code.{payloadIn, prefixed, unprefixed, cutOf, longPlaces, shortPlaces, putLong, putShort}
 use Rattle.codec.proofs.Fits.{subject-fits, short-fits}
 
 -- four bytes, then what stands behind the ID, padded
@@ -100,11 +101,32 @@ unfolding dataOf unprefixed
 data-unprefixed d t =
     simp (length-drop, bytes-length d t, getD-drop 2 (bytesOf d), byte-place d t 2, byte-place d t 3, byte-place d t 4, byte-place d t 5, byte-place d t 6, byte-place d t 7)
 
--- what stands behind an ID, as the code takes it from the record, is at most six bytes
-pub payload-part : (dlc : ℕ) (l : List ℕ) → dlc ≤ 8 → dataOf (take 6 (take (dlc + 2 - 4) l)) ≡ dataOf (take (dlc - 2) l)
-payload-part dlc l h =
-    let n : dlc + 2 - 4 ≡ dlc - 2 = omega arith in
-    rw n (ap dataOf (take-all 6 (take (dlc - 2) l) (simp length-take (omega arith))))
+-- ---- what stands behind the ID, as a part of the record
+
+module _ (dlc : ℕ) (r : List ℕ) where
+  pub no-record-part : (length r ≡ frameSize → ⊥) → [] ≡ payloadIn dlc r
+  unfolding payloadIn
+  no-record-part n = simp (ne-eqb (length r) frameSize n)
+
+  pub too-long-part : mostDlc < dlc → [] ≡ payloadIn dlc r
+  unfolding payloadIn
+  too-long-part h = simp (lt-leb dlc mostDlc h, and-false)
+
+  module _ (ten : length r ≡ frameSize) (most : dlc ≤ mostDlc) where
+    pub payload-is : payloadIn dlc r ≡ payloadTo dlc r
+    unfolding payloadIn
+    payload-is = simp (eq-eqb (length r) frameSize ten, le-leb dlc mostDlc most)
+
+    pub too-short-part : dlc < 2 → [] ≡ payloadIn dlc r
+    too-short-part h = let z : dlc - 2 ≡ 0 = omega arith in sym (payload-is ∙ rw z)
+
+    pub within-part : take (dlc + 2 - payloadPlace) (drop payloadPlace r) ≡ payloadIn dlc r
+    within-part = let e : dlc + 2 - payloadPlace ≡ dlc - 2 = omega arith in rw e (sym payload-is)
+
+    pub part-as-data : dataOf (take mostData (payloadIn dlc r)) ≡ dataOf (payloadTo dlc r)
+    part-as-data =
+        let few : length (payloadTo dlc r) ≤ mostData = simp length-take (omega arith) in
+        rw payload-is (ap dataOf (take-all mostData (payloadTo dlc r) few))
 
 -- ---- what writing answers and leaves, from a test of whether the message fits and what is then put
 

@@ -31,6 +31,7 @@ use Rattle.codec.proofs.Unread.{same-read, cleared-ten, cleared-agrees}
 use Rattle.codec.proofs.heading.header_of.Reads as header-of
 use Rattle.codec.proofs.heading.can_of.Reads as can-of
 use Rattle.codec.proofs.heading.can_bytes.Reads as can-bytes
+use Rattle.codec.proofs.reading.payload_in.Reads as payload-in
 use Rattle.codec.proofs.reading.payload_of.Reads as payload-of
 use Rattle.codec.proofs.reading.refusal_of.Reads as refusal-of
 use Rattle.codec.proofs.reading.subject_of.Reads as subject-of
@@ -135,6 +136,9 @@ can-bytes-determined κs args r r' s s' p q = p ∙ sym q
 pub payload-determined : (κs : _) (args : _) (r r' : _) (s s' : _) → payload-of.Post κs args r s → payload-of.Post κs args r' s' → r ≡ r'
 payload-determined κs args r r' s s' p q = p ∙ sym q
 
+pub payload-in-determined : (κs : _) (args : _) (r r' : _) (s s' : _) → payload-in.Post κs args r s → payload-in.Post κs args r' s' → now r ≡ now r'
+payload-in-determined κs args r r' s s' p q = p ∙ sym q
+
 pub refusal-determined : (κs : _) (args : _) (r r' : _) (s s' : _) → refusal-of.Post κs args r s → refusal-of.Post κs args r' s' → r ≡ r'
 refusal-determined κs args r r' s s' p q = p ∙ sym q
 
@@ -175,6 +179,9 @@ can-bytes-asks-nothing κs args = tt
 
 pub payload-asks-nothing : (κs : _) (args : _) → payload-of.Asked κs args
 payload-asks-nothing κs args = tt
+
+pub payload-in-asks-nothing : (κs : _) (args : _) → payload-in.Asked κs args
+payload-in-asks-nothing κs args = tt
 
 pub refusal-asks-nothing : (κs : _) (args : _) → refusal-of.Asked κs args
 refusal-asks-nothing κs args = tt

@@ -11,12 +11,16 @@ use Rattle.octets.specs.Data.{dataOf, placesOf}
 use Rattle.codec.specs.declared.Subject.{Subject}
 use Rattle.codec.specs.Names.{frameSize, mostDlc}
 use Rattle.codec.specs.Fields.{headerOf}
-use Rattle.codec.specs.Reading.{payloadOf}
+use Rattle.codec.specs.Reading.{payloadTo, payloadOf}
 use Rattle.codec.specs.Writing.{canHeader, longHeader}
 
 -- what stands behind the ID of a record of ten bytes; of another record, or one with a DLC over 8, none of it
 unfoldable pub payloadData : List ℕ → Data
 payloadData r = cond (eqb (length r) frameSize && leb (headerOf r .dlc) mostDlc) (dataOf (payloadOf r)) (dataOf [])
+
+-- the same as a part of the record, up to a DLC
+unfoldable pub payloadIn : ℕ → List ℕ → List ℕ
+payloadIn dlc r = cond (eqb (length r) frameSize && leb dlc mostDlc) (payloadTo dlc r) []
 
 -- what stands behind a fragment's ID: its number, the total byte count, then the data, of which four bytes have room; the length cut to three bits
 unfoldable pub prefixed : ℕ → ℕ → Data → Data

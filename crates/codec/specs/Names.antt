@@ -6,6 +6,10 @@ use Rattle.octets.specs.Data.{mostData}
 abbrev pub frameSize : ℕ
 frameSize = 10
 
+-- where what stands behind the ID begins in a record: "byte 3 .. ID; bytes 4 .. 9" (01, "Frame record"; 000, figures 3.13 and 3.14)
+abbrev pub payloadPlace : ℕ
+payloadPlace = 4
+
 -- "Logical Addresses 0 to 125" (3.2.1.2)
 abbrev pub mostAddress : ℕ
 mostAddress = 125

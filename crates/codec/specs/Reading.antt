@@ -13,7 +13,7 @@ use Rattle.codec.specs.declared.Message.{Message}
 use Rattle.codec.specs.declared.Message.the-variants.{Short, Plain, Fragment}
 use Rattle.codec.specs.declared.Answer.{Answer}
 use Rattle.codec.specs.declared.Answer.the-variants.{Got, Refused}
-use Rattle.codec.specs.Names.{frameSize, mostAddress, mostDlc, lowestLong}
+use Rattle.codec.specs.Names.{frameSize, payloadPlace, mostAddress, mostDlc, lowestLong}
 use Rattle.codec.specs.Fields.{headerOf}
 
 -- "RTR 1, DLC over 8, or address 126 or 127" (check 3)
@@ -47,7 +47,7 @@ subjectOf h = record {
 
 -- the DLC counts bytes from byte 2 on: what stands behind the ID is its last DLC - 2
 abbrev pub payloadTo : ℕ → List ℕ → List ℕ
-payloadTo dlc r = take (dlc - 2) (drop 4 r)
+payloadTo dlc r = take (dlc - 2) (drop payloadPlace r)
 
 abbrev pub payloadOf : List ℕ → List ℕ
 payloadOf r = payloadTo (headerOf r .dlc) r

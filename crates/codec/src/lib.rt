@@ -6,6 +6,7 @@ mod writing;
 pub use heading::can_bytes;
 pub use heading::can_of;
 pub use heading::header_of;
+pub use reading::payload_in;
 pub use reading::payload_of;
 pub use reading::read;
 pub use reading::refusal_of;
@@ -18,6 +19,9 @@ pub use writing::write;
 
 // The bytes of a record.
 pub const FRAME_SIZE: usize = 10;
+
+// Where what stands behind the ID begins in a record.
+pub const PAYLOAD_PLACE: usize = 4;
 
 // The highest logical address (000, 3.2.1.2).
 pub const MOST_ADDRESS: u8 = 125;

@@ -8,7 +8,7 @@ ghost use Rattle.laws.specs.Checks.{firstOf};
 ghost use Rattle.octets.specs.Data.{mostData, dataOf, tidy, bytesOf};
 ghost use Rattle.codec.specs.Names.{frameSize, mostDlc};
 ghost use Rattle.codec.specs.Reading.{headerChecks, readChecks, subjectOf, payloadTo, longOf, readOf};
-ghost use Rattle.codec.specs.Code.{payloadData, unprefixed as Code·unprefixed};
+ghost use Rattle.codec.specs.Code.{payloadData, payloadIn, unprefixed as Code·unprefixed};
 use crate::Answer;
 use crate::FRAME_SIZE;
 use crate::Header;
@@ -16,6 +16,7 @@ use crate::LOWEST_LONG;
 use crate::MOST_ADDRESS;
 use crate::MOST_DLC;
 use crate::Message;
+use crate::PAYLOAD_PLACE;
 use crate::Subject;
 use crate::heading::header_of;
 use octets::Data;
@@ -67,6 +68,23 @@ pub fn subject_of(h: Header) -> Subject
     }
 }
 
+// What stands behind the ID, up to this DLC, as a part of the record. Nothing of a record that is not ten bytes long, or for a DLC over 8.
+pub fn payload_in<'a>(dlc: u8, frame: &'a [u8]) -> &'a [u8]
+    ensures { λ r. ⌜ now r ≡ payloadIn dlc (now (frame .entry)) ⌝ }
+{
+    if frame.len() != FRAME_SIZE {
+        return &frame[0..0];
+    }
+    if MOST_DLC < dlc {
+        return &frame[0..0];
+    }
+    if dlc < 2 {
+        return &frame[0..0];
+    }
+    let end = dlc as usize + 2;
+    &frame[PAYLOAD_PLACE..end]
+}
+
 // What stands behind the ID of a record of ten bytes, up to this DLC. Nothing where it is over 8.
 fn payload_to(dlc: u8, frame: &[u8]) -> Data
     requires { ⌜ length (now frame) ≡ frameSize ⌝ }
@@ -78,8 +96,7 @@ fn payload_to(dlc: u8, frame: &[u8]) -> Data
     if dlc < 2 {
         return no_data();
     }
-    let end = dlc as usize + 2;
-    data_from(&frame[4..end])
+    data_from(payload_in(dlc, frame))
 }
 
 // What stands behind the ID, up to the DLC. Nothing of a record that is not ten bytes long, or whose DLC is over 8.

@@ -68,7 +68,7 @@ collects-exactly r work = rw (number-is r work) (none-holds (checks (length work
 pub at-most-six : (r work : List ℕ) → answerOf r work .number ≤ 6
 at-most-six r work = rw (number-is r work) (first-most 6 (checks (length work) r work) refl)
 
--- ---- what each alters: "6 alone drops the message; 1 to 5 alter nothing" but the tally's count of frames seen
+-- ---- what each alters: 6, "which alone drops the message", and 1 to 5 nothing but the tally's count of frames seen
 
 -- a fragment that passes 1 to 5 is answered 0 or 6
 zero-or-six : (x : Joined) → 0 < joinNumber x → joinNumber x ≤ 5 → ⊥

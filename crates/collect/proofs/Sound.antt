@@ -6,27 +6,26 @@ use mathlib.Core.List.{List}
 use native.Mathlib.Omega.{arith}
 use lib.ListN.{length, getD, replicate, length-replicate, getD-replicate}
 use lib.Dec.{eqb}
-use borrow.Author.Tests.{eqb-true, le-leb}
+use borrow.Author.Tests.{eqb-true, eqb-false, le-leb}
 use Rattle.laws.specs.Checks.{firstOf}
 use Rattle.laws.proofs.Tests.{split}
 use Rattle.octets.specs.declared.Data.{Data}
 use Rattle.codec.specs.declared.Subject.{Subject}
 use Rattle.codec.specs.declared.Message.{Message}
 use Rattle.codec.specs.declared.Message.the-variants.{Short, Plain, Fragment}
-use Rattle.codec.specs.declared.Answer.{Answer}
-use Rattle.codec.specs.declared.Answer.the-variants.{Got, Refused}
-use Rattle.codec.specs.Names.{mostAddress}
+use Rattle.codec.specs.declared.Answer.the-variants.{Got}
+use Rattle.codec.specs.Names.{payloadPlace, mostAddress}
 use Rattle.octets.specs.Data.{bytesOf}
 use Rattle.codec.specs.Fields.{headerOf}
 use Rattle.codec.specs.Reading.{readChecks, subjectOf, payloadOf, shortOf, messageOf, readOf}
 use Rattle.codec.specs.Code.{payloadData}
 use Rattle.codec.proofs.Headers.{ten-of, payload-read}
-use Rattle.codec.proofs.Long.{message-short, message-fragment, payload-plain}
+use Rattle.codec.proofs.Long.{got, message-short, message-fragment, payload-plain}
 use Rattle.codec.proofs.Trips.{read-message}
 use Rattle.join.specs.Work.{recordSize, base, load}
 use Rattle.join.specs.History.{Fit}
 use Rattle.collect.specs.Checks.{collectSize, guestCount, answersRead, wrongPiece, joiner}
-use Rattle.collect.specs.Step.{Judged, nobodys, spoilt, whole, piece, owner, judgedOf, cut, wholePlace}
+use Rattle.collect.specs.Step.{Judged, nobodys, spoilt, whole, piece, owner, judgedOf, cut}
 use Rattle.collect.specs.Code.{wholeJudged, fragmentJudged, messageJudged}
 use Rattle.collect.specs.Belongs.{Good, ownerOf}
 use Rattle.collect.proofs.Groups.{malformed-judged, as-read, message-judged, plain-below, fragment-below}
@@ -58,45 +57,47 @@ module _ (r : List ℕ) (u : Subject) (b : Data) (e : readOf r ≡ Got (Plain u 
   pub plain-bytes : bytesOf b ≡ payloadOf r
   plain-bytes = rw its-body (payload-read r read-whole in-long-form .bytes)
 
-  pub plain-part : cut wholePlace (b .len) r ≡ payloadOf r
+  pub plain-part : cut payloadPlace (b .len) r ≡ payloadOf r
   plain-part =
       let p = payload-read r read-whole in-long-form in
       let n : b .len ≡ headerOf r .dlc - 2 = ap (λ (d : Data). d .len) its-body ∙ p .len in
-      let fit : wholePlace + (headerOf r .dlc - 2) ≤ length r = omega (arith, ten-of r read-whole .0, p .long .most) in
-      rw n (simp (le-leb (wholePlace + (headerOf r .dlc - 2)) (length r) fit))
+      let fit : payloadPlace + (headerOf r .dlc - 2) ≤ length r = omega (arith, ten-of r read-whole .0, p .long .most) in
+      rw n (simp (le-leb (payloadPlace + (headerOf r .dlc - 2)) (length r) fit))
 
 module _ (r : List ℕ) where
   abbrev pub Sound : Judged → Type 0
   Sound (nobodys n) = Unit {0}
   Sound (spoilt guest n) = guest ≤ mostAddress
-  Sound (whole u n) = (u .address ≤ mostAddress) × (cut wholePlace n r ≡ payloadOf r)
+  Sound (whole u n) = (u .address ≤ mostAddress) × (cut payloadPlace n r ≡ payloadOf r)
   Sound (piece u p) = (u .address ≤ mostAddress) × Fit joiner p
 
-whole-sound : (r : List ℕ) (u : Subject) (n : ℕ) → u .address ≤ mostAddress → cut wholePlace n r ≡ payloadOf r → Sound r (wholeJudged u n)
+whole-sound : (r : List ℕ) (u : Subject) (n : ℕ) → u .address ≤ mostAddress → cut payloadPlace n r ≡ payloadOf r → Sound r (wholeJudged u n)
 unfolding wholeJudged
-whole-sound r u n h c = split (answersRead u) (λ t. split (eqb n 0) (λ z. simp (t, z) h) (λ z. simp (t, z) (h, c))) (λ t. simp t tt)
+whole-sound r u n h c = split (eqb n 0) (λ z. simp z h) (λ z. simp z (h, c))
 
 fragment-sound : (r : List ℕ) (u : Subject) (number total : ℕ) (b : Data) → u .address ≤ mostAddress → Sound r (fragmentJudged u number total b)
 unfolding fragmentJudged
 fragment-sound r u number total b h =
-    split (answersRead u)
-    (λ t. split (eqb total 0)
-    (λ z. simp (t, z) h)
-    (λ z. split (wrongPiece total number (b .len)) (λ w. simp (t, z, w) h) (λ w. simp (t, z, w) (h, fits u number total b w))))
-    (λ t. simp t tt)
+    split (eqb total 0)
+    (λ z. simp z h)
+    (λ z. split (wrongPiece total number (b .len)) (λ w. simp (z, w) h) (λ w. simp (z, w) (h, fits u number total b w)))
 
 message-sound : (r : List ℕ) (m : Message) → readOf r ≡ Got m → Sound r (messageJudged m)
 unfolding messageJudged
 message-sound r (Short dir address service) e = tt
-message-sound r (Plain u b) e = whole-sound r u (b .len) (plain-below r u b e) (plain-part r u b e)
-message-sound r (Fragment u number total b) e = fragment-sound r u number total b (fragment-below r u number total b e)
+message-sound r (Plain u b) e =
+    split (answersRead u) (λ t. simp t (whole-sound r u (b .len) (plain-below r u b e) (plain-part r u b e))) (λ t. simp t tt)
+message-sound r (Fragment u number total b) e =
+    split (answersRead u) (λ t. simp t (fragment-sound r u number total b (fragment-below r u number total b e))) (λ t. simp t tt)
 
 pub sound : (r : List ℕ) → Sound r (judgedOf collectSize r)
-sound r = go (readOf r) refl
-  where
-    go : (a : Answer) → readOf r ≡ a → Sound r (judgedOf collectSize r)
-    go (Got m) e = subst (Sound r) (sym (message-judged collectSize r m refl e)) (message-sound r m e)
-    go (Refused n) e = subst (Sound r) (sym (malformed-judged collectSize r n refl e)) tt
+sound r =
+    split (eqb (firstOf (readChecks r)) 0)
+    (λ t.
+    let ten = ten-of r (eqb-true (firstOf (readChecks r)) 0 t) in
+    let says = got r (ten .0) (ten .1) in
+    subst (Sound r) (sym (message-judged collectSize r (messageOf r) refl says)) (message-sound r (messageOf r) says))
+    (λ t. subst (Sound r) (sym (malformed-judged collectSize r refl (eqb-false (firstOf (readChecks r)) 0 t))) tt)
 
 -- a guest's record is inside a work area of its size
 pub room : (guest : ℕ) (work : List ℕ) → guest ≤ mostAddress → Good work → base guest + recordSize ≤ length work

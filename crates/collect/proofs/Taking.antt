@@ -1,20 +1,21 @@
 -- What the joiner's functions leave of a fragment is what 02 says, of what is ready.
-use Prim.Native.Nat.{ℕ, _+_, _≤_, _<_}
+use Prim.Native.Nat.{ℕ, _+_, _-_, _≤_, _<_, min}
 use mathlib.Core.Path.{_≡_, refl, sym, _∙_}
-use mathlib.Core.Bool.{Bool, true, false, cond, not, _&&_, and-true, and-false}
+use mathlib.Core.Bool.{Bool, true, false, cond, not, _&&_}
 use mathlib.Mathlib.Data.Bool.Basic.{or-eq-false-eq-eq-false-and-eq-false as neither}
 use mathlib.Core.List.{List, [], _∷_}
 use native.Mathlib.Omega.{arith}
-use lib.ListN.{length}
+use lib.ListN.{length, take}
+use lib.Seq.{take-all}
 use lib.Dec.{eqb, ltb}
-use borrow.Author.Tests.{not-false, ltb-false, eq-eqb, ne-eqb, lt-ltb}
+use borrow.Author.Tests.{not-false, ltb-false, lt-ltb}
 use Rattle.laws.proofs.Tests.{split}
 use Rattle.octets.specs.declared.Data.{Data}
-use Rattle.octets.specs.Data.{mostData, bytesOf}
-use Rattle.octets.proofs.Datas.{bytes-counted}
+use Rattle.octets.specs.Data.{mostData, dataOf, bytesOf}
+use Rattle.octets.proofs.Datas.{bytes-data, bytes-counted}
 use Rattle.codec.specs.declared.Subject.{Subject}
 use Rattle.codec.specs.Names.{mostFragmentData}
-use Rattle.join.specs.Work.{recordSize, dataSize, base, Piece, load, filling, kept, done, lost, shapedBy, last, astray, joined, dropped, areaAfter}
+use Rattle.join.specs.Work.{recordSize, dataSize, base, Piece, load, filling, kept, done, shapedBy, last, astray, joined, dropped, areaAfter}
 use Rattle.join.specs.History.{ShapedBy, Fit}
 use Rattle.join.specs.Code.{recordFits}
 use Rattle.join.proofs.Joins.{shaped-by-in-words, number-most}
@@ -45,6 +46,13 @@ right total number len e =
     let s = shaped-by-in-words mostFragmentData total number len .0 (not-false _ (n .0)) in
     let t = ltb-false dataSize total (n .1) in
     record { shaped = s; room = t; few = omega (arith, s .fit); byte = omega (arith, number-most mostFragmentData 63 total number len (omega arith) t s) }
+
+-- so cutting its bytes at four takes them all
+pub whole-body : (total number : ℕ) (l : List ℕ) → wrongPiece total number (length l) ≡ false → (n : ℕ) → n ≡ min mostFragmentData (length l)
+    → take (n - 0) l ≡ bytesOf (dataOf l)
+whole-body total number l w n e =
+    let r = right total number (length l) w in
+    take-all (n - 0) l (omega (arith, e, r .shaped .fit)) ∙ sym (bytes-data l (r .few))
 
 module _ (u : Subject) (number total : ℕ) (b : Data) (e : wrongPiece total number (b .len) ≡ false) where
   abbrev p : Piece
@@ -88,25 +96,27 @@ module _ (u : Subject) (number total : ℕ) (b : Data) (e : wrongPiece total num
 
     -- ---- the fragment joined
 
-    module _ (at : ℕ) (ae : at ≡ base (u .address)) (filled strays : Bool) (fe : filled ≡ filling joiner (load joiner at work))
+    module _ (at : ℕ) (ae : at ≡ base (u .address)) (strays : Bool)
         (se : strays ≡ astray joiner (load joiner at work) (record { key = u .id ∷ u .object ∷ []; total = total; number = number; bytes = [] })) where
-      fills : fillingIn work (u .address) ≡ filled
+      fills : fillingIn work (u .address) ≡ filling joiner (load joiner at work)
       unfolding fillingIn
-      fills = rw (← ae) (sym fe)
+      fills = rw (← ae)
 
       in-order : (t : Bool) → strays ≡ t → astray joiner (load joiner (base (u .address)) work) p ≡ t
       in-order t q = rw (← ae) (sym (astray-any joiner (load joiner at work) p) ∙ sym se ∙ q)
 
-      pub lost-join : strays ≡ true → (c : Collected) → c ≡ gives 6 Nothing filled → (m : List ℕ) → m ≡ cond (ltb at (length work)) (dropped at work) work
+      pub lost-join : strays ≡ true → (filled : Bool) → filled ≡ filling joiner (load joiner at work) → (c : Collected) → c ≡ gives 6 Nothing filled
+          → (m : List ℕ) → m ≡ cond (ltb at (length work)) (dropped at work) work
           → (c ≡ answerTo (piece u p) work) × (m ≡ workAfter (piece u p) work)
       unfolding answerTo workAfter joinedIn joined areaAfter
-      lost-join t c ce m me =
+      lost-join t filled fe c ce m me =
           let a = in-order true t in (
-            ce ∙ simp (fills, a),
+            ce ∙ rw fe (simp (fills, a)),
             me ∙ simp (lt-ltb at (length work) (omega (arith, ae, guest-inside (length work) (u .address) z))) (rw ae (simp a)),
           )
 
-      taken-join : strays ≡ false → (d : Bool) → d ≡ (filled && eqb number 0) → (v : Value) → v ≡ takenValue u p → (m : List ℕ) → m ≡ takenWork u p work
+      pub taken-join : strays ≡ false → (d : Bool) → d ≡ (filling joiner (load joiner at work) && eqb number 0) → (v : Value) → v ≡ takenValue u p
+          → (m : List ℕ) → m ≡ takenWork u p work
           → (gives 0 v d ≡ answerTo (piece u p) work) × (m ≡ workAfter (piece u p) work)
       unfolding answerTo workAfter joinedIn joined areaAfter takenValue takenWork
       taken-join f d de v ve m me =
@@ -114,12 +124,3 @@ module _ (u : Subject) (number total : ℕ) (b : Data) (e : wrongPiece total num
           split (last joiner p)
           (λ l. (rw (de, ve) (simp (fills, a, l)), me ∙ simp (a, l)))
           (λ l. (rw (de, ve) (simp (fills, a, l)), me ∙ simp (a, l)))
-
-      -- a number 0 is what a filling record is lost to, any other follows it
-      pub begun-join : strays ≡ false → number ≡ 0 → (v : Value) → v ≡ takenValue u p → (m : List ℕ) → m ≡ takenWork u p work
-          → (gives 0 v filled ≡ answerTo (piece u p) work) × (m ≡ workAfter (piece u p) work)
-      begun-join f n = taken-join f filled (simp (eq-eqb number 0 n) (sym (and-true filled)))
-
-      pub followed-join : strays ≡ false → (number ≡ 0 → ⊥) → (v : Value) → v ≡ takenValue u p → (m : List ℕ) → m ≡ takenWork u p work
-          → (gives 0 v false ≡ answerTo (piece u p) work) × (m ≡ workAfter (piece u p) work)
-      followed-join f n = taken-join f false (simp (ne-eqb number 0 n) (sym (and-false filled)))

@@ -35,7 +35,7 @@ joinedBytes kept = []
 joinedBytes (done bs) = bs
 joinedBytes lost = []
 
--- the number of a frame's answer, what is handed over, and its bytes, from the history before it: "a whole frame hands over its own"
+-- the number of a frame's answer, what is handed over, and its bytes, from the history before it. A whole frame hands over its own
 pub record Told : Type 0 where
   pub number : ℕ
   pub value : Value

@@ -9,6 +9,7 @@ use Rattle.laws.specs.Checks.{firstOf}
 use Rattle.codec.specs.declared.Subject.{Subject}
 use Rattle.codec.specs.declared.Message.{Message}
 use Rattle.codec.specs.declared.Message.the-variants.{Short, Plain, Fragment}
+use Rattle.codec.specs.Names.{payloadPlace}
 use Rattle.codec.specs.Reading.{messageOf}
 use Rattle.join.specs.Work.{headSize, base, Piece, load, filling, Joined, kept, done, lost, joined, areaAfter}
 use Rattle.collect.specs.declared.Value.{Value}
@@ -47,7 +48,7 @@ unfoldable pub judgedOf : ℕ → List ℕ → Judged
 judgedOf size r =
     cond (eqb (firstOf (frameChecks size r)) 0) (passing (messageOf r)) (refused (firstOf (frameChecks size r)) (guestOf (messageOf r)))
 
--- whose a frame is: that of the guest which sent it; "Frames refused 1 to 3 are nobody's"
+-- whose a frame is: that of the guest which sent it; one that is refused with 1 to 3 is nobody's
 abbrev pub owner : Judged → Option ℕ
 owner (nobodys n) = none
 owner (spoilt guest n) = some guest
@@ -115,14 +116,10 @@ workOf r work = workAfter (judgedOf (length work) r) work
 abbrev pub cut : ℕ → ℕ → List ℕ → List ℕ
 cut at n l = cond (leb (at + n) (length l)) (take n (drop at l)) []
 
--- where the data of a whole frame stand in its record: behind the ID
-abbrev pub wholePlace : ℕ
-wholePlace = 4
-
--- where a value begins, in the frame or in the work area: a joined one where the data of its guest's record do
+-- where a value begins: a whole one behind the ID of its frame, a joined one where the data of its guest's record do
 abbrev pub placeOf : Value → ℕ
 placeOf Nothing = 0
-placeOf (Whole guest object id n) = wholePlace
+placeOf (Whole guest object id n) = payloadPlace
 placeOf (Complete guest object id n) = base guest + headSize
 
 -- "A joined value is shown as a part of the work area, a whole one as a part of the frame"

@@ -1,20 +1,22 @@
 // One frame: the refusals in 02's order, a whole answer handed over, a fragment joined.
 ghost use mathlib.Core.Path.{_≡_};
-ghost use mathlib.Core.Bool.{false};
+ghost use mathlib.Core.Bool.{_&&_};
 ghost use mathlib.Core.List.{List};
-ghost use Prim.Native.Nat.{ℕ};
+ghost use Prim.Native.Nat.{ℕ, _-_, min};
+ghost use lib.Dec.{eqb};
 ghost use lib.ListN.{length};
-ghost use Rattle.collect.specs.Checks.{answersRead, pieceOf};
+ghost use Rattle.octets.specs.Data.{dataOf};
+ghost use Rattle.codec.specs.Names.{mostFragmentData};
+ghost use Rattle.codec.specs.Reading.{subjectOf};
+ghost use Rattle.join.specs.Work.{load, filling};
+ghost use Rattle.collect.specs.Checks.{answersRead, joiner, pieceOf};
 ghost use Rattle.collect.specs.Step.{gives, piece, answerTo, workAfter, answerOf, workOf};
-ghost use Rattle.collect.specs.Code.{wholeJudged, fragmentJudged, Placed, Ready, takenValue, takenWork};
+ghost use Rattle.collect.specs.Code.{wholeJudged, payloadJudged, Placed, Numbered, Ready, takenValue, takenWork};
 use crate::AREA;
 use crate::Collected;
 use crate::Value;
-use codec::Answer;
+use codec::Header;
 use codec::MOST_FRAGMENT_DATA;
-use codec::Message;
-use codec::Subject;
-use octets::Data;
 
 // Refused, and nothing is handed over.
 fn refused(number: u8, dropped: bool) -> Collected
@@ -28,54 +30,62 @@ fn refused(number: u8, dropped: bool) -> Collected
 }
 
 // Whether a long message is a guest's Successful response to a Read.
-fn answers_read(about: Subject) -> bool
-    ensures { λ r. ⌜ r ≡ answersRead about ⌝ }
+fn answers_read(h: Header) -> bool
+    ensures { λ r. ⌜ r ≡ answersRead (subjectOf h) ⌝ }
 {
-    if about.dir != 1 {
+    if h.dir != 1 {
         return false;
     }
-    if about.service != codec::READ_SERVICE {
+    if h.service != codec::READ_SERVICE {
         return false;
     }
-    about.response == codec::SUCCESSFUL
+    h.response == codec::SUCCESSFUL
 }
 
-// An answer in one frame: handed over at once.
-fn whole(about: Subject, len: u8) -> Collected
-    ensures { λ r. ⌜ ((work : List ℕ) → r ≡ answerTo (wholeJudged about len) work) ⌝ }
+// 5 of an answer in one frame, which else is handed over at once.
+fn whole(h: Header) -> Collected
+    ensures { λ r. ⌜ ((work : List ℕ) → r ≡ answerTo (wholeJudged (subjectOf h) (h .dlc - 2)) work) ⌝ }
 {
-    if !answers_read(about) {
-        return refused(3, false);
-    }
-    if len == 0 {
+    if h.dlc <= 2 {
         return refused(5, false);
     }
     Collected {
         number: 0,
         value: Value::Whole {
-            guest: about.address,
-            object: about.object,
-            id: about.id,
-            len,
+            guest: h.address,
+            object: h.object,
+            id: h.id,
+            len: h.dlc - 2,
         },
         dropped: false,
     }
 }
 
-// A fragment that is in order: the last one completes its message, any other is kept.
-fn take_piece(about: Subject, number: u8, total: u8, body: Data, work: &mut [u8]) -> Value
-    requires { ⌜ Ready (length (now work)) (about .address) total number (body .len) ⌝ }
-    ensures { λ r. ⌜ (r ≡ takenValue about (pieceOf about number total body)) × (now (work .exit) ≡ takenWork about (pieceOf about number total body) (now (work .entry))) ⌝ }
+// A length that is at most that of a fragment's data, which a compiler cannot know else.
+fn at_most_four(len: usize) -> usize
+    ensures { λ r. ⌜ r ≡ min mostFragmentData len ⌝ }
 {
-    let at = join::place_of(about.address);
-    let places = octets::places_of(body);
-    let n = body.len as usize;
+    if (MOST_FRAGMENT_DATA as usize) < len {
+        MOST_FRAGMENT_DATA as usize
+    } else {
+        len
+    }
+}
+
+// A fragment that is in order: the last one completes its message, any other is kept.
+fn take_piece(h: Header, number: u8, total: u8, body: &[u8], work: &mut [u8]) -> Value
+    requires { ⌜ Ready (length (now work)) (h .address) total number (length (now body)) ⌝ }
+    ensures { λ r. ⌜ (r ≡ takenValue (subjectOf h) (pieceOf (subjectOf h) number total (dataOf (now (body .entry)))))
+        × (now (work .exit) ≡ takenWork (subjectOf h) (pieceOf (subjectOf h) number total (dataOf (now (body .entry)))) (now (work .entry))) ⌝ }
+{
+    let at = join::place_of(h.address);
+    let n = at_most_four(body.len());
     if join::is_last(MOST_FRAGMENT_DATA, total, number) {
-        join::finish(work, at, MOST_FRAGMENT_DATA, number, &places[0..n]);
+        join::finish(work, at, MOST_FRAGMENT_DATA, number, &body[0..n]);
         return Value::Complete {
-            guest: about.address,
-            object: about.object,
-            id: about.id,
+            guest: h.address,
+            object: h.object,
+            id: h.id,
             len: total,
         };
     }
@@ -83,59 +93,62 @@ fn take_piece(about: Subject, number: u8, total: u8, body: Data, work: &mut [u8]
         work,
         at,
         MOST_FRAGMENT_DATA,
-        about.id,
-        about.object,
+        h.id,
+        h.object,
         total,
         number,
-        &places[0..n],
+        &body[0..n],
     );
     Value::Nothing
 }
 
-// A fragment that has passed 1 to 5: out of order, or taken. A filling record is lost to the one, and to a number 0.
-fn join_piece(about: Subject, number: u8, total: u8, body: Data, work: &mut [u8]) -> Collected
-    requires { ⌜ Ready (length (now work)) (about .address) total number (body .len) ⌝ }
-    ensures { λ r. ⌜ (r ≡ answerTo (piece about (pieceOf about number total body)) (now (work .entry)))
-        × (now (work .exit) ≡ workAfter (piece about (pieceOf about number total body)) (now (work .entry))) ⌝ }
+// Whether a fragment that is in order begins anew over a filling record, which is lost to it. None but a number 0 does.
+fn begins_over(work: &[u8], at: usize, number: u8) -> bool
+    ensures { λ r. ⌜ r ≡ (filling joiner (load joiner at (now (work .entry))) && eqb number 0) ⌝ }
 {
-    let at = join::place_of(about.address);
-    let filled = join::is_filling(work, at, MOST_FRAGMENT_DATA);
-    if join::is_astray_of_two(
-        work,
-        at,
-        MOST_FRAGMENT_DATA,
-        about.id,
-        about.object,
-        total,
-        number,
-    ) {
+    if number != 0 {
+        return false;
+    }
+    join::is_filling(work, at, MOST_FRAGMENT_DATA)
+}
+
+// A fragment that has passed 1 to 5: out of order, to which a filling record is lost too, or taken.
+fn join_piece(h: Header, number: u8, total: u8, body: &[u8], work: &mut [u8]) -> Collected
+    requires { ⌜ Ready (length (now work)) (h .address) total number (length (now body)) ⌝ }
+    ensures { λ r. ⌜ (r ≡ answerTo (piece (subjectOf h) (pieceOf (subjectOf h) number total (dataOf (now (body .entry))))) (now (work .entry)))
+        × (now (work .exit) ≡ workAfter (piece (subjectOf h) (pieceOf (subjectOf h) number total (dataOf (now (body .entry))))) (now (work .entry))) ⌝ }
+{
+    let at = join::place_of(h.address);
+    if join::is_astray_of_two(work, at, MOST_FRAGMENT_DATA, h.id, h.object, total, number) {
+        let filled = join::is_filling(work, at, MOST_FRAGMENT_DATA);
         join::clear(work, at);
         return refused(6, filled);
     }
-    let value = take_piece(about, number, total, body, work);
+    let dropped = begins_over(work, at, number);
+    let value = take_piece(h, number, total, body, work);
     Collected {
         number: 0,
         value,
-        dropped: if number == 0 { filled } else { false },
+        dropped,
     }
 }
 
-// 3 to 6 of a fragment.
-fn fragment(about: Subject, number: u8, total: u8, body: Data, work: &mut [u8]) -> Collected
-    requires { ⌜ Placed (length (now work)) (about .address) ⌝ }
-    ensures { λ r. ⌜ (r ≡ answerTo (fragmentJudged about number total body) (now (work .entry)))
-        × (now (work .exit) ≡ workAfter (fragmentJudged about number total body) (now (work .entry))) ⌝ }
+// 4 to 6 of a fragment, of what stands behind its ID.
+fn fragment(h: Header, payload: &[u8], work: &mut [u8]) -> Collected
+    requires { ⌜ Placed (length (now work)) (h .address) × Numbered (length (now payload)) ⌝ }
+    ensures { λ r. ⌜ (r ≡ answerTo (payloadJudged (subjectOf h) (now (payload .entry))) (now (work .entry)))
+        × (now (work .exit) ≡ workAfter (payloadJudged (subjectOf h) (now (payload .entry))) (now (work .entry))) ⌝ }
 {
-    if !answers_read(about) {
-        return refused(3, false);
-    }
+    let number = payload[0];
+    let total = payload[1];
+    let len = (payload.len() - 2) as u8;
     if total == 0 {
         return refused(4, false);
     }
-    if !join::is_shaped(MOST_FRAGMENT_DATA, total, number, body.len) {
+    if !join::is_shaped(MOST_FRAGMENT_DATA, total, number, len) {
         return refused(5, false);
     }
-    join_piece(about, number, total, body, work)
+    join_piece(h, number, total, &payload[2..], work)
 }
 
 // What 02 says of one frame, for every frame and work area of any length and content.
@@ -145,21 +158,18 @@ pub fn collect(frame: &[u8], work: &mut [u8]) -> Collected
     if work.len() != AREA {
         return refused(1, false);
     }
-    let Answer::Got(message) = codec::read(frame) else {
+    if codec::refusal_of(frame) != 0 {
         return refused(2, false);
-    };
-    match message {
-        Message::Short {
-            dir: _,
-            address: _,
-            service: _,
-        } => refused(3, false),
-        Message::Plain { about, body } => whole(about, body.len),
-        Message::Fragment {
-            about,
-            number,
-            total,
-            body,
-        } => fragment(about, number, total, body, work),
     }
+    let h = codec::header_of(frame);
+    if h.dlc == 0 {
+        return refused(3, false);
+    }
+    if !answers_read(h) {
+        return refused(3, false);
+    }
+    if h.flag != 1 {
+        return whole(h);
+    }
+    fragment(h, codec::payload_in(h.dlc, frame), work)
 }

@@ -12,9 +12,6 @@ pub const GUESTS: usize = codec::MOST_ADDRESS as usize + 1;
 
 pub const AREA: usize = GUESTS * join::RECORD;
 
-// Where the data of a whole frame stand in its record.
-pub const WHOLE_PLACE: usize = 4;
-
 // What is handed over, and whose it is: part_of gives its bytes.
 pub enum Value {
     Nothing,

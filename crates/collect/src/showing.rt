@@ -2,7 +2,6 @@
 ghost use mathlib.Core.Path.{_≡_};
 ghost use Rattle.collect.specs.Step.{cut as Step·cut, partOf};
 use crate::Value;
-use crate::WHOLE_PLACE;
 
 // n bytes from a place on, or none where they would run past the end.
 fn cut<'a>(at: usize, n: usize, area: &'a [u8]) -> &'a [u8]
@@ -28,7 +27,7 @@ pub fn part_of<'a>(value: Value, frame: &'a [u8], work: &'a [u8]) -> &'a [u8]
             object: _,
             id: _,
             len,
-        } => cut(WHOLE_PLACE, len as usize, frame),
+        } => cut(codec::PAYLOAD_PLACE, len as usize, frame),
         Value::Complete {
             guest,
             object: _,

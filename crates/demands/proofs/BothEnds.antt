@@ -94,7 +94,7 @@ module _ (own : ℕ) (h : Header) (o : own ≤ mostAddress) (s : h .service ≡ 
   unfolding messageJudged frame
   judged n l =
       message-judged collectSize (frame n) _ refl (fragment-reads own h o (omega arith) (omega arith) ob bs n)
-      ∙ judged-piece u n L (dataOf (fragmentPart bs n)) answers (λ z. omega arith) (right n l)
+      ∙ simp answers (judged-piece u n L (dataOf (fragmentPart bs n)) (λ z. omega arith) (right n l))
       ∙ ap (λ (d : List ℕ). piece u (record { key = h .id ∷ h .object ∷ []; total = L; number = n; bytes = d }))
       (bytes-data (fragmentPart bs n) (omega (arith, part-length n)))
 

@@ -1,31 +1,17 @@
 -- What a call of the collector leaves in C's buffers, from what the calls below it give.
 use Prim.Native.Nat.{ℕ}
-use mathlib.Core.Path.{_≡_, refl, sym, ap, _∙_}
-use mathlib.Core.Bool.{false, cond}
-use mathlib.Core.List.{List, _++_}
-use lib.ListN.{length, take, drop}
+use mathlib.Core.Path.{_≡_, sym, _∙_}
+use mathlib.Core.Bool.{true, false}
+use mathlib.Core.List.{List}
+use lib.ListN.{length}
 use lib.Dec.{eqb}
 use borrow.Author.Tests.{eq-eqb, ne-eqb}
-use Rattle.laws.proofs.Bytes.{copied}
-use Rattle.collect.specs.declared.Value.{Value}
-use Rattle.collect.specs.declared.Value.the-variants.{Nothing, Whole, Complete}
+use Rattle.collect.specs.declared.Value.the-variants.{Nothing}
 use Rattle.collect.specs.declared.Collected.{Collected}
 use Rattle.collect.specs.declared.Tally.{Tally}
 use Rattle.collect.specs.Step.{gives, answerOf, workOf}
 use Rattle.collect.specs.Tally.{tallied}
 use Rattle.sds_host.specs.Border.{valueSize, valueBytes, borderAnswer, borderWork, borderValue, BorderCollected}
-
--- a value is eight bytes
-pub value-long : (v : Value) → length (valueBytes v) ≡ valueSize
-unfolding valueBytes
-value-long Nothing = refl
-value-long (Whole guest object id n) = refl
-value-long (Complete guest object id n) = refl
-
--- they are copied over the eight that are lent
-pub value-copied : (v : Value) (bytes l : List ℕ) → bytes ≡ valueBytes v → length l ≡ valueSize
-    → take (length bytes) bytes ++ drop (length bytes) l ≡ valueBytes v
-value-copied v bytes l e h = copied bytes l (ap length e ∙ value-long v ∙ sym h) ∙ e
 
 module _ (r work value : List ℕ) (t : Tally) where
   -- a value buffer of another length
@@ -35,10 +21,25 @@ module _ (r work value : List ℕ) (t : Tally) where
       let f = ne-eqb (length value) valueSize h in
       record { answers = simp f; leaves = simp f; shows = simp f; counts = e ∙ simp f }
 
-  pub with-value : length value ≡ valueSize → (c : Collected) → c ≡ answerOf r work → (work' : List ℕ) → work' ≡ workOf r work
-      → (value' : List ℕ) → value' ≡ cond (eqb (c .number) 0) (valueBytes (c .value)) value → (t' : Tally) → t' ≡ tallied t c
-      → BorderCollected r work value t (c .number) work' value' t'
-  unfolding borderAnswer borderWork borderValue
-  with-value h c ce work' we value' ve t' te =
-      let f = eq-eqb (length value) valueSize h in
-      record { answers = simp (f, ← ce); leaves = we ∙ simp f; shows = ve ∙ simp (f, ← ce); counts = te ∙ simp (f, ← ce) }
+  module _ (eight : length value ≡ valueSize) (c : Collected) (ce : c ≡ answerOf r work) (work' : List ℕ) (we : work' ≡ workOf r work) (t' : Tally) (te : t' ≡ tallied t c) where
+    abbrev is-eight : eqb (length value) valueSize ≡ true
+    is-eight = eq-eqb (length value) valueSize eight
+
+    -- a refusal leaves the value, and else it is shown
+    pub refused-call : (c .number ≡ 0 → ⊥) → BorderCollected r work value t (c .number) work' value t'
+    unfolding borderAnswer borderWork borderValue
+    refused-call n = record {
+      answers = simp (is-eight, ← ce);
+      leaves = we ∙ simp is-eight;
+      shows = simp (is-eight, ← ce, ne-eqb (c .number) 0 n);
+      counts = te ∙ simp (is-eight, ← ce);
+    }
+
+    pub shown-call : c .number ≡ 0 → (value' : List ℕ) → value' ≡ valueBytes (c .value) → BorderCollected r work value t 0 work' value' t'
+    unfolding borderAnswer borderWork borderValue
+    shown-call n value' ve = record {
+      answers = sym n ∙ simp (is-eight, ← ce);
+      leaves = we ∙ simp is-eight;
+      shows = ve ∙ simp (is-eight, ← ce, eq-eqb (c .number) 0 n);
+      counts = te ∙ simp (is-eight, ← ce);
+    }

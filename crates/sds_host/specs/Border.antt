@@ -29,8 +29,8 @@ borderExportAnswer r l = putOf r l .number + 256 * putOf r l .len
 
 -- ---- the collector
 
--- "`value` is 8 bytes: 0 nothing handed over, 1 a part of the record, 2 a part of the work area; guest; object; ID; length; 0; the part's place, two
--- bytes, low first"
+-- a value is 8 bytes: 0 nothing handed over, 1 a part of the record, 2 a part of the work area; guest; object; ID; length; 0; the part's place, two
+-- bytes, low first
 abbrev pub valueSize : ℕ
 valueSize = 8
 
@@ -42,14 +42,14 @@ valueBytes Nothing = valueAt 0 0 0 0 0 0
 valueBytes (Whole guest object id n) = valueAt 1 guest object id n (placeOf (Whole guest object id n))
 valueBytes (Complete guest object id n) = valueAt 2 guest object id n (placeOf (Complete guest object id n))
 
--- "A value buffer not of 8 bytes is 1 too", and nothing alters then but the tally
+-- a value buffer not of 8 bytes is 1 too, and nothing alters then but the tally
 unfoldable pub borderAnswer : (r work value : List ℕ) → Collected
 borderAnswer r work value = cond (eqb (length value) valueSize) (answerOf r work) (gives 1 Nothing false)
 
 unfoldable pub borderWork : (r work value : List ℕ) → List ℕ
 borderWork r work value = cond (eqb (length value) valueSize) (workOf r work) work
 
--- "With number 0 all eight are set (all 0 where a fragment was kept); on a refusal they stay"
+-- with number 0 all eight are set (all 0 where a fragment was kept); on a refusal they stay
 unfoldable pub borderValue : (r work value : List ℕ) → List ℕ
 borderValue r work value = cond (eqb (borderAnswer r work value .number) 0) (valueBytes (borderAnswer r work value .value)) value
 

@@ -1,10 +1,8 @@
 // The border to C of what a host uses beside the device: byte slices and numbers, as in sds, and a tally. Nothing is asked of a caller.
 ghost use mathlib.Core.Path.{_≡_};
-ghost use mathlib.Core.Bool.{cond};
-ghost use lib.Dec.{eqb};
 ghost use lib.ListN.{length};
 ghost use Rattle.candump.specs.Exporting.{putLeft};
-ghost use Rattle.sds_host.specs.Border.{borderImportNumber, borderImport, borderExportAnswer, valueBytes, valueSize, BorderCollected};
+ghost use Rattle.sds_host.specs.Border.{borderImportNumber, borderImport, borderExportAnswer, valueSize, valueAt, valueBytes, BorderCollected};
 use collect::Collected;
 use collect::Tally;
 use collect::Value;
@@ -37,43 +35,37 @@ pub extern "C" fn sds_export_record(frame: &[u8], line: &mut [u8]) -> u32
     (put.number as u32) + 256 * (put.len as u32)
 }
 
-// The bytes of what is handed over: kind, guest, object, ID, length, 0, and the place, its low byte first.
-fn value_bytes(value: Value) -> [u8; 8]
-    ensures { λ r. ⌜ r ≡ valueBytes value ⌝ }
+// Puts the bytes of a value: kind, guest, object, ID, length, 0, and the place, its low byte first.
+fn put_value(kind: u8, guest: u8, object: u8, id: u8, len: u8, place: usize, value: &mut [u8])
+    requires { ⌜ length (now value) ≡ valueSize ⌝ }
+    ensures { λ _. ⌜ now (value .exit) ≡ valueAt kind guest object id len place ⌝ }
 {
-    match value {
-        Value::Nothing => [0, 0, 0, 0, 0, 0, 0, 0],
+    let low = (place % 256) as u8;
+    let high = (place / 256 % 256) as u8;
+    let bytes = [kind, guest, object, id, len, 0, low, high];
+    bytes::copy(&bytes, value);
+}
+
+// Shows what is handed over.
+fn show(what: Value, value: &mut [u8])
+    requires { ⌜ length (now value) ≡ valueSize ⌝ }
+    ensures { λ _. ⌜ now (value .exit) ≡ valueBytes what ⌝ }
+{
+    match what {
+        Value::Nothing => put_value(0, 0, 0, 0, 0, 0, value),
         Value::Whole {
             guest,
             object,
             id,
             len,
-        } => [1, guest, object, id, len, 0, collect::WHOLE_PLACE as u8, 0],
+        } => put_value(1, guest, object, id, len, codec::PAYLOAD_PLACE, value),
         Value::Complete {
             guest,
             object,
             id,
             len,
-        } => {
-            let place = join::data_place(guest);
-            let low = (place % 256) as u8;
-            let high = (place / 256 % 256) as u8;
-            [2, guest, object, id, len, 0, low, high]
-        }
+        } => put_value(2, guest, object, id, len, join::data_place(guest), value),
     }
-}
-
-// Shows what is handed over; a refusal leaves the bytes.
-fn show(c: Collected, value: &mut [u8])
-    requires { ⌜ length (now value) ≡ valueSize ⌝ }
-    ensures { λ _. ⌜ now (value .exit) ≡ cond (eqb (c .number) 0) (valueBytes (c .value)) (now (value .entry)) ⌝ }
-{
-    if c.number != 0 {
-        return;
-    }
-    let what = c.value;
-    let bytes = value_bytes(what);
-    bytes::copy(&bytes, value);
 }
 
 // What a call leaves besides the lent bytes.
@@ -96,12 +88,17 @@ pub fn collected(frame: &[u8], work: &mut [u8], value: &mut [u8], t: Tally) -> O
         return Outcome { number: 1, tally };
     }
     let c = collect::collect(frame, work);
-    show(c, value);
-    let tally = collect::tallied(t, c);
-    Outcome {
-        number: c.number as u32,
-        tally,
+    if c.number != 0 {
+        let tally = collect::tallied(t, c);
+        return Outcome {
+            number: c.number as u32,
+            tally,
+        };
     }
+    let what = c.value;
+    show(what, value);
+    let tally = collect::tallied(t, c);
+    Outcome { number: 0, tally }
 }
 
 // One frame into the collector (02, 2026-07). The number of the refusal or 0; the value's bytes are set where it is 0; every call alters the tally.

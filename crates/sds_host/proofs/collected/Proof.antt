@@ -1,4 +1,4 @@
-use Rattle.sds_host.proofs.Values.{no-value, with-value}
+use Rattle.sds_host.proofs.Values.{no-value, refused-call, shown-call}
 use borrow.Author.Needs.{needs}
 use Rattle.sds_host.proofs.collected.Statement.{statement}
 use Rattle.sds_host.proofs.collected.Tie as tie
@@ -15,30 +15,46 @@ returns c =
 collect-requires : tie.Need-collect-requires
 collect-requires c κs = search needs
 
-show-requires : tie.Need-show-requires
-show-requires c κs = search needs
-
 tallied-requires-2 : tie.Need-tallied-requires-2
 tallied-requires-2 c κs = search needs
 
-cast-t17 : tie.Need-cast-t17
-cast-t17 c = search needs
+cast-t16 : tie.Need-cast-t16
+cast-t16 c = search needs
 
 same-length : tie.Need-same-length
 same-length c = search needs
 
-same-length-2 : tie.Need-same-length-2
-same-length-2 c = search needs
-
 returns-2 : tie.Need-returns-2
 returns-2 c =
     let tally = c .before in
-    let show = tally .before .before .before in
-    let collect = show .before .before .before .before in
+    let answer = tally .before in
+    let collect = answer .before .before .before .before in
     let size = collect .before .before in
     let a = size .before .before .before .before .args in
-    with-value (a .frame .now) (a .work .now) (a .value .now) (a .t) (size .if1 .left)
-    _ (collect .collect .ensures .0) _ (collect .collect .ensures .1) _ (show .show .ensures) _ (tally .tallied2 .ensures)
+    refused-call (a .frame .now) (a .work .now) (a .value .now) (a .t) (size .if1 .left) _ (collect .collect .ensures .0)
+    _ (collect .collect .ensures .1) _ (tally .tallied2 .ensures) (answer .if2 .taken)
+
+show-requires : tie.Need-show-requires
+show-requires c κs = search needs
+
+tallied-requires-3 : tie.Need-tallied-requires-3
+tallied-requires-3 c κs = search needs
+
+same-length-2 : tie.Need-same-length-2
+same-length-2 c = search needs
+
+same-length-3 : tie.Need-same-length-3
+same-length-3 c = search needs
+
+returns-3 : tie.Need-returns-3
+returns-3 c =
+    let show = c .before .before .before in
+    let answer = show .before .before in
+    let collect = answer .before .before .before .before in
+    let size = collect .before .before in
+    let a = size .before .before .before .before .args in
+    shown-call (a .frame .now) (a .work .now) (a .value .now) (a .t) (size .if1 .left) _ (collect .collect .ensures .0)
+    _ (collect .collect .ensures .1) _ (c .tallied3 .ensures) (answer .if2 .left) _ (show .show .ensures)
 
 pub collected-spec : {M : Type 1} → statement M
 collected-spec =
@@ -47,9 +63,12 @@ collected-spec =
     tallied-requires
     returns
     collect-requires
-    show-requires
     tallied-requires-2
-    cast-t17
+    cast-t16
     same-length
+    returns-2
+    show-requires
+    tallied-requires-3
     same-length-2
-    returns-2)
+    same-length-3
+    returns-3)

@@ -1,5 +1,6 @@
 use mathlib.Core.Bool.{and-false}
 use Rattle.laws.proofs.Tests.{tests}
+use Rattle.codec.specs.Reading.{subjectOf}
 use Rattle.collect.proofs.Groups.{answers-by-response}
 use Rattle.collect.proofs.collecting.answers_read.Statement.{statement}
 use Rattle.collect.proofs.collecting.answers_read.Tie as tie
@@ -14,7 +15,7 @@ returns-3 : tie.Need-returns-3
 returns-3 c =
     let service = c .before in
     let dir = service .before .before in
-    answers-by-response (dir .before .before .args .about) (dir .if1 .left) (service .if2 .left)
+    answers-by-response (subjectOf (dir .before .before .args .h)) (dir .if1 .left) (service .if2 .left)
 
 pub answers-read-spec : {M : Type 1} → statement M
 answers-read-spec = tie.close (tie.spec returns returns-2 returns-3)

@@ -1,15 +1,30 @@
 use Prim.Native.Nat.{_≤_}
-use mathlib.Core.Path.{refl, sym, _∙_}
+use mathlib.Core.Path.{refl}
+use mathlib.Core.Bool.{false}
+use native.Mathlib.Omega.{arith}
+use lib.ListN.{drop}
 use borrow.Author.Tests.{not-true, not-false}
+use Rattle.laws.specs.Bytes.{byteAt}
+use Rattle.octets.specs.Data.{dataOf}
+use Rattle.codec.specs.Reading.{subjectOf}
 use Rattle.join.specs.Work.{dataSize}
 use Rattle.collect.specs.Step.{answerTo, workAfter}
-use Rattle.collect.proofs.Groups.{no-answer, without-total, of-wrong-shape, right-piece, judged-piece}
+use Rattle.collect.proofs.Groups.{without-total, of-wrong-shape, shaped-as, rest-ready, rest-judged}
 use borrow.Author.Needs.{needs}
 use Rattle.collect.proofs.collecting.fragment.Statement.{statement}
 use Rattle.collect.proofs.collecting.fragment.Tie as tie
 
-answers-read-requires : tie.Need-answers-read-requires
-answers-read-requires c κs = search needs
+shared-slice-read-number : tie.Need-shared-slice-read-number
+shared-slice-read-number c = search needs
+
+shared-slice-read-total : tie.Need-shared-slice-read-total
+shared-slice-read-total c = search needs
+
+sub-len : tie.Need-sub-len
+sub-len c = search needs
+
+cast-len : tie.Need-cast-len
+cast-len c = search needs
 
 refused-requires : tie.Need-refused-requires
 refused-requires c κs = search needs
@@ -17,10 +32,13 @@ refused-requires c κs = search needs
 returns : tie.Need-returns
 unfolding answerTo workAfter
 returns c =
-    let reads = c .before in
-    let a = reads .before .before .before .args in
-    rw (no-answer (a .about) (a .number) (a .total) (a .body) (sym (reads .before .answers-read .ensures) ∙ not-true _ (reads .if1 .taken)))
-    (c .refused .ensures, refl)
+    let total = c .before in
+    let a = total .before .before .before .before .before .args in
+    let p = a .payload .now in
+    rw (without-total (subjectOf (a .h)) (byteAt p 0) (byteAt p 1) (dataOf (drop 2 p)) (total .if1 .taken)) (c .refused .ensures, refl)
+
+is-shaped-requires : tie.Need-is-shaped-requires
+is-shaped-requires c κs = search needs
 
 refused-requires-2 : tie.Need-refused-requires-2
 refused-requires-2 c κs = search needs
@@ -28,61 +46,64 @@ refused-requires-2 c κs = search needs
 returns-2 : tie.Need-returns-2
 unfolding answerTo workAfter
 returns-2 c =
-    let total = c .before in
-    let reads = total .before in
-    let a = reads .before .before .before .args in
-    rw (without-total (a .about) (a .number) (a .total) (a .body) (sym (reads .before .answers-read .ensures) ∙ not-false _ (reads .if1 .left)) (total .if2 .taken)) (c .refused2 .ensures, refl)
-
-is-shaped-requires : tie.Need-is-shaped-requires
-is-shaped-requires c κs = search needs
-
-refused-requires-3 : tie.Need-refused-requires-3
-refused-requires-3 c κs = search needs
-
-returns-3 : tie.Need-returns-3
-unfolding answerTo workAfter
-returns-3 c =
     let shape = c .before in
     let total = shape .before .before in
-    let reads = total .before in
-    let a = reads .before .before .before .args in
-    rw (of-wrong-shape (a .about) (a .number) (a .total) (a .body) (sym (reads .before .answers-read .ensures) ∙ not-false _ (reads .if1 .left)) (total .if2 .left) (sym (shape .before .is-shaped .ensures) ∙ not-true _ (shape .if3 .taken))) (c .refused3 .ensures, refl)
+    let a = total .before .before .before .before .before .args in
+    let p = a .payload .now in
+    let wrong = shaped-as (byteAt p 1) (byteAt p 0) p _ (shape .before .is-shaped .ensures) false (not-true _ (shape .if2 .taken)) in
+    rw (of-wrong-shape (subjectOf (a .h)) (byteAt p 0) (byteAt p 1) (dataOf (drop 2 p)) (total .if1 .left) wrong) (c .refused2 .ensures, refl)
+
+sub-join-piece : tie.Need-sub-join-piece
+sub-join-piece c = search needs
+
+part-join-piece-start : tie.Need-part-join-piece-start
+part-join-piece-start c = search needs
+
+part-join-piece-end : tie.Need-part-join-piece-end
+part-join-piece-end c = search needs
 
 join-piece-requires : tie.Need-join-piece-requires
 join-piece-requires c κs =
-    let shape = c .before in
+    let shape = c .before .before in
     let total = shape .before .before in
-    let reads = total .before in
-    let a = reads .before .before .before .args in
-    let byte : a .total ≤ dataSize = search needs in
-    record { placed = reads .before .before .before .pre; right = right-piece (a .about) (a .number) (a .total) (a .body) byte (sym (shape .before .is-shaped .ensures) ∙ not-false _ (shape .if3 .left)) }
+    let known = total .before in
+    let s = known .before .before .before .before in
+    let a = s .args in
+    let p = a .payload .now in
+    let byte : byteAt p 1 ≤ dataSize = omega (arith, known .shared-slice-known3 .given 1) in
+    rest-ready (subjectOf (a .h)) p byte _ (shape .before .is-shaped .ensures) (not-false _ (shape .if2 .left)) _ _ (s .pre .0)
 
 same-length : tie.Need-same-length
 same-length c = search needs
 
-returns-4 : tie.Need-returns-4
-returns-4 c =
+returns-3 : tie.Need-returns-3
+returns-3 c =
     let join = c .before .before in
-    let shape = join .before .before in
+    let shape = join .before .before .before in
     let total = shape .before .before in
-    let reads = total .before in
-    let a = reads .before .before .before .args in
-    let byte : a .total ≤ dataSize = search needs in
-    let w = right-piece (a .about) (a .number) (a .total) (a .body) byte (sym (shape .before .is-shaped .ensures) ∙ not-false _ (shape .if3 .left)) in
-    rw (judged-piece (a .about) (a .number) (a .total) (a .body) (sym (reads .before .answers-read .ensures) ∙ not-false _ (reads .if1 .left)) (total .if2 .left) w) (join .join-piece .ensures)
+    let known = total .before in
+    let s = known .before .before .before .before in
+    let a = s .args in
+    let p = a .payload .now in
+    let byte : byteAt p 1 ≤ dataSize = omega (arith, known .shared-slice-known3 .given 1) in
+    rw (rest-judged (subjectOf (a .h)) p byte _ (shape .before .is-shaped .ensures) (not-false _ (shape .if2 .left)) (total .if1 .left)) (join .join-piece .ensures)
 
 pub fragment-spec : {M : Type 1} → statement M
 fragment-spec =
     tie.close
     (tie.spec
-    answers-read-requires
+    shared-slice-read-number
+    shared-slice-read-total
+    sub-len
+    cast-len
     refused-requires
     returns
+    is-shaped-requires
     refused-requires-2
     returns-2
-    is-shaped-requires
-    refused-requires-3
-    returns-3
+    sub-join-piece
+    part-join-piece-start
+    part-join-piece-end
     join-piece-requires
     same-length
-    returns-4)
+    returns-3)

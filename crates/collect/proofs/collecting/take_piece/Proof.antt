@@ -1,7 +1,8 @@
 use mathlib.Core.Path.{sym, _∙_}
-use Rattle.octets.proofs.Datas.{places-cut}
+use Rattle.octets.specs.Data.{dataOf}
+use Rattle.codec.specs.Reading.{subjectOf}
 use Rattle.collect.specs.Code.{takenValue}
-use Rattle.collect.proofs.Taking.{right, finished-work, kept-work}
+use Rattle.collect.proofs.Taking.{whole-body, finished-work, kept-work}
 use borrow.Author.Needs.{needs}
 use Rattle.collect.proofs.collecting.take_piece.Statement.{statement}
 use Rattle.collect.proofs.collecting.take_piece.Tie as tie
@@ -9,11 +10,8 @@ use Rattle.collect.proofs.collecting.take_piece.Tie as tie
 place-of-requires : tie.Need-place-of-requires
 place-of-requires c κs = search needs
 
-places-of-requires : tie.Need-places-of-requires
-places-of-requires c κs = search needs
-
-cast-n : tie.Need-cast-n
-cast-n c = search needs
+at-most-four-requires : tie.Need-at-most-four-requires
+at-most-four-requires c κs = search needs
 
 is-last-requires : tie.Need-is-last-requires
 is-last-requires c κs = search needs
@@ -25,10 +23,7 @@ part-finish-start : tie.Need-part-finish-start
 part-finish-start c = search needs
 
 part-finish-end : tie.Need-part-finish-end
-part-finish-end c =
-    let s = c .before .before .before .before .before .before .before .before in
-    let few = right (s .args .total) (s .args .number) (s .args .body .len) (s .pre .right) .few in
-    search needs
+part-finish-end c = search needs
 
 finish-requires : tie.Need-finish-requires
 finish-requires c κs = search needs
@@ -37,19 +32,21 @@ same-length : tie.Need-same-length
 same-length c = search needs
 
 returns : tie.Need-returns
-unfolding takenValue
+unfolding takenValue dataOf
 returns c =
     let finish = c .before .before in
-    let arg = finish .before .before .before in
-    let if-last = arg .before in
+    let if-last = finish .before .before .before in
     let last = if-last .before in
-    let places = last .before .before in
-    let place = places .before in
-    let s = place .before .before in
+    let four = last .before in
+    let place = four .before in
+    let s = place .before .before .before in
     let a = s .args in
     let is = sym (last .is-last .ensures) ∙ if-last .if1 .taken in
-    let body = places-cut (a .body) (places .places-of .result) (places .places-of .ensures) in
-    (simp is, finished-work (a .about) (a .number) (a .total) (a .body) (s .pre .right) (a .work .now) (s .pre .placed) _ (place .place-of .ensures) _ body _ is (finish .finish .ensures))
+    let body = whole-body (a .total) (a .number) (a .body .now) (s .pre .right) _ (four .at-most-four .ensures) in (
+      simp is,
+      finished-work (subjectOf (a .h)) (a .number) (a .total) (dataOf (a .body .now)) (s .pre .right) (a .work .now) (s .pre .placed)
+          _ (place .place-of .ensures) _ body _ is (finish .finish .ensures),
+    )
 
 sub-keep-of-two : tie.Need-sub-keep-of-two
 sub-keep-of-two c = search needs
@@ -58,10 +55,7 @@ part-keep-of-two-start : tie.Need-part-keep-of-two-start
 part-keep-of-two-start c = search needs
 
 part-keep-of-two-end : tie.Need-part-keep-of-two-end
-part-keep-of-two-end c =
-    let s = c .before .before .before .before .before .before .before .before in
-    let few = right (s .args .total) (s .args .number) (s .args .body .len) (s .pre .right) .few in
-    search needs
+part-keep-of-two-end c = search needs
 
 keep-of-two-requires : tie.Need-keep-of-two-requires
 keep-of-two-requires c κs = search needs
@@ -70,27 +64,28 @@ same-length-2 : tie.Need-same-length-2
 same-length-2 c = search needs
 
 returns-2 : tie.Need-returns-2
-unfolding takenValue
+unfolding takenValue dataOf
 returns-2 c =
     let keep-of-two = c .before .before in
-    let arg = keep-of-two .before .before .before in
-    let if-last = arg .before in
+    let if-last = keep-of-two .before .before .before in
     let last = if-last .before in
-    let places = last .before .before in
-    let place = places .before in
-    let s = place .before .before in
+    let four = last .before in
+    let place = four .before in
+    let s = place .before .before .before in
     let a = s .args in
     let is = sym (last .is-last .ensures) ∙ if-last .if1 .left in
-    let body = places-cut (a .body) (places .places-of .result) (places .places-of .ensures) in
-    (simp is, kept-work (a .about) (a .number) (a .total) (a .body) (s .pre .right) (a .work .now) (s .pre .placed) _ (place .place-of .ensures) _ body _ is (keep-of-two .keep-of-two .ensures))
+    let body = whole-body (a .total) (a .number) (a .body .now) (s .pre .right) _ (four .at-most-four .ensures) in (
+      simp is,
+      kept-work (subjectOf (a .h)) (a .number) (a .total) (dataOf (a .body .now)) (s .pre .right) (a .work .now) (s .pre .placed)
+          _ (place .place-of .ensures) _ body _ is (keep-of-two .keep-of-two .ensures),
+    )
 
 pub take-piece-spec : {M : Type 1} → statement M
 take-piece-spec =
     tie.close
     (tie.spec
     place-of-requires
-    places-of-requires
-    cast-n
+    at-most-four-requires
     is-last-requires
     sub-finish
     part-finish-start
