@@ -6,7 +6,7 @@ use Rattle.octets.specs.Data.{mostData}
 abbrev pub frameSize : ℕ
 frameSize = 10
 
--- where what stands behind the ID begins in a record: "byte 3 .. ID; bytes 4 .. 9" (01, "Frame record"; 000, figures 3.13 and 3.14)
+-- where what stands behind the ID, which is byte 3, begins in a record (01, "Frame record"; 000, figures 3.13 and 3.14)
 abbrev pub payloadPlace : ℕ
 payloadPlace = 4
 
