@@ -45,7 +45,7 @@ headerJudged h p =
     cond (eqb (h .dlc) 0) (nobodys 3)
     (cond (answersRead (subjectOf h)) (cond (eqb (h .flag) 1) (payloadJudged (subjectOf h) p) (wholeJudged (subjectOf h) (h .dlc - 2))) (nobodys 3))
 
--- what joining needs: a work area of its size, a guest that has a record there, and a fragment of its shape
+-- what joining needs: a work area of its size, and a guest that has a record there
 pub record Placed (size guest : ℕ) : Type 0 where
   pub sized : size ≡ collectSize
   pub below : guest ≤ mostAddress
@@ -55,6 +55,7 @@ pub record Numbered (len : ℕ) : Type 0 where
   pub least : 2 ≤ len
   pub most : len ≤ mostData
 
+-- and a fragment of its shape
 pub record Ready (size guest total number len : ℕ) : Type 0 where
   pub placed : Placed size guest
   pub right : wrongPiece total number len ≡ false

@@ -1,6 +1,7 @@
--- WHAT THE BORDER PROMISES of lines and records: what is refused and what then stays, and the way there and back.
-use Prim.Native.Nat.{ℕ, _*_, _/_, _%_, _<_, _≤_}
+-- WHAT THE BORDER PROMISES of lines and records, and of the collector: what is refused and what then stays, and the way there and back.
+use Prim.Native.Nat.{ℕ, _+_, _*_, _/_, _%_, _<_, _≤_}
 use mathlib.Core.Path.{_≡_, refl}
+use mathlib.Core.Bool.{false}
 use mathlib.Core.List.{List}
 use mathlib.Core.Logic.{_↔_}
 use native.Mathlib.Omega.{arith}
@@ -12,13 +13,15 @@ use Rattle.laws.specs.Bytes.{Bytes}
 use Rattle.laws.specs.Checks.{FirstAt}
 use Rattle.laws.proofs.Tests.{split}
 use Rattle.laws.proofs.Checks.{first-most}
-use Rattle.codec.specs.Names.{frameSize, mostDlc}
+use Rattle.codec.specs.Names.{frameSize, mostAddress, mostDlc}
 use Rattle.codec.specs.Fields.{canOf}
 use Rattle.candump.specs.Frame.{unusedCleared}
 use Rattle.candump.specs.Importing.{importChecks, importOf}
 use Rattle.candump.specs.Exporting.{lineRoom, lineOf, putChecks, putOf, putLeft}
 use Rattle.candump.proofs.Promises.{import-number, put-refuses-exactly, put-small, refused-buffer-unchanged, put-leaves, line-back}
-use Rattle.sds_host.specs.Border.{borderImportNumber, borderImport, borderExportAnswer}
+use Rattle.collect.specs.declared.Value.the-variants.{Nothing, Complete}
+use Rattle.collect.specs.Step.{gives, answerOf, workOf, placeOf}
+use Rattle.sds_host.specs.Border.{borderImportNumber, borderImport, borderExportAnswer, valueSize, valueBytes, borderAnswer, borderWork, borderValue}
 
 -- ---- refusals
 
@@ -70,3 +73,30 @@ module _ (r l : List ℕ) (b : Bytes r) (ten : length r ≡ frameSize) (few : ca
       let t = eq-eqb (length s) frameSize n in
       let back = line-back r b ten few in
       rw line-at-front (simp (t, back), simp (t, back))
+
+-- ---- the collector
+
+module _ (r work value : List ℕ) where
+  -- a value buffer of another length is 1, and then nothing of what is lent alters but the tally; else the number, the work area and the tally are the collector's
+  pub no-value-unchanged : (length value ≡ valueSize → ⊥)
+      → (borderAnswer r work value ≡ gives 1 Nothing false) × (borderWork r work value ≡ work) × (borderValue r work value ≡ value)
+  unfolding borderAnswer borderWork borderValue
+  no-value-unchanged h = let f = ne-eqb (length value) valueSize h in (simp f, simp f, simp f)
+
+  pub else-as-collected : length value ≡ valueSize → (borderAnswer r work value ≡ answerOf r work) × (borderWork r work value ≡ workOf r work)
+  unfolding borderAnswer borderWork
+  else-as-collected h = let t = eq-eqb (length value) valueSize h in (simp t, simp t)
+
+  -- a refusal leaves the value, and else its eight bytes are set
+  pub refused-value-unchanged : (borderAnswer r work value .number ≡ 0 → ⊥) → borderValue r work value ≡ value
+  unfolding borderValue
+  refused-value-unchanged h = simp (ne-eqb (borderAnswer r work value .number) 0 h)
+
+  pub value-set : borderAnswer r work value .number ≡ 0 → borderValue r work value ≡ valueBytes (borderAnswer r work value .value)
+  unfolding borderValue
+  value-set h = simp (eq-eqb (borderAnswer r work value .number) 0 h)
+
+-- the place of every guest's value fits two bytes, as `sds_value_bytes` puts them together
+pub place-back : (guest object id n : ℕ) → guest ≤ mostAddress
+    → (let place = placeOf (Complete guest object id n) in place % 256 + 256 * (place / 256 % 256) ≡ place)
+place-back guest object id n h = omega arith
