@@ -1,4 +1,5 @@
 // Lines of can-utils logs to frame records and back (02, 2026-02). It knows text and frames, and nothing of a device.
+#![tactic(auto)]
 mod exporting;
 mod importing;
 mod text;
@@ -17,7 +18,7 @@ pub const LINE_ROOM: usize = 36;
 pub const LINE_FEED: u8 = b'\n';
 
 // Kinds of bytes: 0 to 9; what has a sign and is no space; 0 to 9, A to F, a to f.
-#[derive(Drop)]
+#[derive(Clone, Copy)]
 pub enum Kind {
     Decimal,
     Visible,
@@ -25,21 +26,21 @@ pub enum Kind {
 }
 
 // Digits as bytes, with zeros behind them, if all are pairs of hex digits and there are at most eight.
-#[derive(Drop)]
+#[derive(Clone, Copy)]
 pub struct Pairs {
     pub all: bool,
     pub bytes: [u8; 8],
 }
 
 // What a line is imported to: 0 and the ten bytes of its record, or the number of the refusal and zeros.
-#[derive(Drop)]
+#[derive(Clone, Copy)]
 pub struct Imported {
     pub number: u8,
     pub frame: [u8; 10],
 }
 
 // What a record is exported to: 0, the line's length and the line, with zeros behind it; or the number of the refusal, 0 and zeros.
-#[derive(Drop)]
+#[derive(Clone, Copy)]
 pub struct Exported {
     pub number: u8,
     pub len: usize,
@@ -47,7 +48,7 @@ pub struct Exported {
 }
 
 // What is put into a buffer: 0 and the line's length, or the number of the refusal and 0.
-#[derive(Drop)]
+#[derive(Clone, Copy)]
 pub struct Put {
     pub number: u8,
     pub len: usize,

@@ -1,4 +1,5 @@
 // The codec: frame records of ten bytes to messages and back (01, "Frame record"; 000, 3.2).
+#![tactic(auto)]
 mod heading;
 mod reading;
 mod writing;
@@ -55,7 +56,7 @@ pub const SUCCESSFUL: u8 = 1;
 pub const ERRONEOUS: u8 = 2;
 
 // The fields of a record's first four bytes, as they stand there, whether or not the record is readable.
-#[derive(Drop)]
+#[derive(Clone, Copy)]
 pub struct Header {
     pub dir: u8,
     pub address: u8,
@@ -69,7 +70,7 @@ pub struct Header {
 }
 
 // The CAN header of a record: the identifier of 11 bits, RTR and the data length code (000, figure 3.2).
-#[derive(Drop)]
+#[derive(Clone, Copy)]
 pub struct Can {
     pub identifier: u16,
     pub rtr: u8,
@@ -77,7 +78,7 @@ pub struct Can {
 }
 
 // What each long message says of itself: from or to whom, which service, request or response, of what.
-#[derive(Drop)]
+#[derive(Clone, Copy)]
 pub struct Subject {
     pub dir: u8,
     pub address: u8,
@@ -87,7 +88,7 @@ pub struct Subject {
     pub id: u8,
 }
 
-#[derive(Drop)]
+#[derive(Clone, Copy)]
 pub enum Message {
     // DLC 0: Dir/Pri, address and service type are the whole message.
     Short {
@@ -110,7 +111,7 @@ pub enum Message {
 }
 
 // What reading a record gives: its message, or the number of the refusal.
-#[derive(Drop)]
+#[derive(Clone, Copy)]
 pub enum Answer {
     Got(Message),
     Refused(u8),

@@ -1,4 +1,5 @@
 // The host's side of a long Read (02, 2026-07): what guests answer, frame by frame, becomes whole values. Nothing is known here of tables and stores.
+#![tactic(auto)]
 mod collecting;
 mod counting;
 mod showing;
@@ -13,7 +14,7 @@ pub const GUESTS: usize = codec::MOST_ADDRESS as usize + 1;
 pub const AREA: usize = GUESTS * join::RECORD;
 
 // What is handed over, and whose it is: part_of gives its bytes.
-#[derive(Drop)]
+#[derive(Clone, Copy)]
 pub enum Value {
     Nothing,
     // A part of the frame.
@@ -33,7 +34,7 @@ pub enum Value {
 }
 
 // What a frame brings: the number of the refusal or 0, what is handed over, and whether a half-joined message was lost.
-#[derive(Drop)]
+#[derive(Clone, Copy)]
 pub struct Collected {
     pub number: u8,
     pub value: Value,
@@ -42,7 +43,7 @@ pub struct Collected {
 
 // What came up so far, as C has it too.
 #[repr(C)]
-#[derive(Drop)]
+#[derive(Clone, Copy)]
 pub struct Tally {
     pub seen: u32,
     pub finished: u32,

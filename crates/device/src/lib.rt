@@ -1,4 +1,5 @@
 // The device: one frame, one reply (01, "One frame, one reply").
+#![tactic(auto)]
 mod applying;
 mod stepping;
 mod switching;
@@ -6,7 +7,7 @@ mod switching;
 pub use stepping::step;
 
 // The number of the reply, and how many frames stand at the front of the output.
-#[derive(Drop)]
+#[derive(Clone, Copy)]
 pub struct Reply {
     pub number: u8,
     pub count: u8,

@@ -1,13 +1,14 @@
 // Records of ten bytes from standard input, as a log of can-utils to standard output. A record that is refused writes nothing there and one line to
 // standard error: its number from 1, the number of the refusal and the rule. What has come is answered before more is waited for, so that on a live pipe no
 // whole record waits for those behind it.
+#![tactic(auto)]
 ghost use Rattle.std.specs.Prelude.{◌≡◌, ◌<◌, length};
 ghost use Rattle.codec.specs.Names.{frame_size};
 
 const RECORD: usize = codec::FRAME_SIZE;
 
 // How far an export has come: the bytes that are held of a record, the records that are done, the bytes that wait to be written.
-#[derive(Drop)]
+#[derive(Clone, Copy)]
 struct Progress {
     held: usize,
     records: u64,

@@ -1,5 +1,6 @@
 // What a guest does with one frame (01, "One frame, one reply"): its meaning, in specs/, and the laws about it. No function: the code stands in judge, answers,
 // writes and device, over this type.
+#![tactic(auto)]
 
 // The data bytes of every fragment but the last (01, "Served Read" and "Served fragment").
 pub const FRAGMENT_BYTES: u8 = 4;
@@ -17,7 +18,7 @@ pub const READ_ONLY_VARIABLE: u8 = 2;
 pub const ILLEGAL_DLC: u8 = 9;
 
 // What a frame in long form that checks 1 to 6 let pass asks for, decided by checks 7 to 12 and no state.
-#[derive(Drop)]
+#[derive(Clone, Copy)]
 pub enum Plan {
     // Refused with 7 to 12: one error frame.
     Error {

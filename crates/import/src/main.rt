@@ -1,12 +1,13 @@
 // A log of can-utils from standard input, as records of ten bytes to standard output. A line that is refused writes nothing there and one line to standard
 // error: its number from 1, the number of the refusal and the rule. What has come is answered before more is waited for, so that on a live pipe no whole
 // line waits for those behind it.
+#![tactic(auto)]
 
 // What is held of a line that is not whole yet. One byte more than the longest line that is imported tells that it is too long, so no more is held.
 const HELD: usize = candump::MOST_LINE + 1;
 
 // How far an import has come: the bytes that are held of a line, the lines that are done, the bytes that wait to be written.
-#[derive(Drop)]
+#[derive(Clone, Copy)]
 struct Progress {
     held: usize,
     lines: u64,

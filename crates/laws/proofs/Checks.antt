@@ -1,7 +1,8 @@
 -- Each number of a table of checks is given exactly when its check holds and no earlier one does.
 use Prim.Native.Nat.{ℕ, ◌<◌, ◌≤◌}
 use mathlib.Core.Path.{◌≡◌, refl, sym, ap, ◌∙◌}
-use mathlib.Core.Bool.{Bool, true, false, cond, and-eq-true_iff, or-true}
+use mathlib.Core.Bool.{Bool, true, false, cond, and-eq-true_iff}
+use Rattle.std.proofs.lemmas.Bool.{or_right}
 use mathlib.Core.List.{List, [], ◌∷◌, ◌++◌, map}
 use mathlib.Core.Logic.{◌↔◌}
 use native.Mathlib.Omega.{arith}
@@ -130,7 +131,11 @@ first_listed [] h = absurd (omega (arith, h))
 first_listed (c ∷ cs) h =
     split c.0
     (λ t. simp (t, eq-eqb c.1 c.1 refl))
-    (λ f. simp (f, first_listed cs (simp f at h), or-true))
+    (λ f.
+    let n = first_of cs in
+    let numbers = map (λ (c : Check). c.1) cs in
+    let e : first_of (c ∷ cs) ≡ n = simp f in
+    ap (λ m. listed m (c.1 ∷ numbers)) e ∙ or_right (eqb c.1 n) (listed n numbers) (first_listed cs (simp f at h)))
 
 -- a number of a list that a test takes is among those that it takes
 pub listed_those : (p : ℕ → Bool) (n : ℕ) (ms : List ℕ) → p n ≡ true → listed n ms ≡ true → listed n (those p ms) ≡ true

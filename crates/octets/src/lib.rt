@@ -1,4 +1,5 @@
 // Bytes as values: the byte of a place, and up to six of them with their count.
+#![tactic(auto)]
 mod bodies;
 mod places;
 
@@ -9,7 +10,7 @@ pub use places::byte_at;
 pub const MOST: u8 = 6;
 
 // len data bytes, at most six. A place that is not used holds 0.
-#[derive(Drop)]
+#[derive(Clone, Copy)]
 pub struct Data {
     pub len: u8,
     pub b0: u8,

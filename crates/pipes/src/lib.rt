@@ -1,4 +1,5 @@
 // What the programs on pipes share: buffers that are filled from the front, and the line that tells what was refused.
+#![tactic(auto)]
 ghost use Rattle.std.specs.Prelude.{◌≡◌, min, take};
 ghost use Rattle.pipes.specs.Buffers.{appended, appended_count, sent_from, next_of, complaint_of as complaintOf};
 

@@ -1,6 +1,7 @@
 // Plays a capture, records of ten bytes from standard input, into the sample device of 01 and prints each reply: its number, a blank and the count
 // of frames. Store and work area are zero at first, and keep what the records make of them. A record is answered once it has arrived, so that on a live
 // pipe none waits for those behind it.
+#![tactic(auto)]
 mod line;
 
 const RECORD: usize = codec::FRAME_SIZE;

@@ -1,4 +1,5 @@
 // The sample device (01, "Sample device"), for the programs that run it.
+#![tactic(auto)]
 
 pub const ADDRESS: u32 = 9;
 

@@ -1,5 +1,6 @@
 // The library's border to C: byte slices and numbers. A slice is a pointer and then a length of 64 bits; each answer is 32 bits wide, since a
 // narrower one is not widened on every target. Nothing is asked of a caller.
+#![tactic(auto)]
 mod messages;
 
 ghost use Rattle.std.specs.Prelude.{◌≡◌};

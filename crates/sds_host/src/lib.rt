@@ -1,4 +1,5 @@
 // The border to C of what a host uses beside the device: byte slices and numbers, as in sds, and a tally. Nothing is asked of a caller.
+#![tactic(auto)]
 ghost use Rattle.std.specs.Prelude.{◌≡◌, length};
 ghost use Rattle.candump.specs.Exporting.{put_left};
 ghost use Rattle.sds_host.specs.Border.{border_import_number, border_import, border_export_answer, value_size, value_at, value_bytes, BorderCollected};
@@ -67,7 +68,7 @@ fn show(what: Value, value: &mut [u8])
 }
 
 // What a call leaves besides the lent bytes.
-#[derive(Drop)]
+#[derive(Clone, Copy)]
 pub struct Outcome {
     pub number: u32,
     pub tally: Tally,

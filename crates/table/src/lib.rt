@@ -1,4 +1,6 @@
 // The object table: which attributes a device has, and where their bytes stand in its store (01, "Object table, store, work area").
+#![tactic(auto)]
+
 mod descriptor;
 mod entries;
 mod finding;
@@ -10,7 +12,7 @@ pub use finding::{find, first_network, part};
 pub use sizes::lengths_fit;
 
 // A record of the table: eight bytes.
-#[derive(Drop)]
+#[derive(Clone, Copy)]
 pub struct Attribute {
     pub object: u8,
     pub id: u8,
@@ -21,7 +23,7 @@ pub struct Attribute {
 }
 
 // What a search of the table finds.
-#[derive(Drop)]
+#[derive(Clone, Copy)]
 pub enum Found {
     At(Attribute),
     Nothing,

@@ -1,4 +1,5 @@
 // Runs each worked example of 000, section 5, through the codec: read, told in the words of the paper's DESCRIPTION row, and written back.
+#![tactic(auto)]
 mod examples;
 mod words;
 
