@@ -1,5 +1,6 @@
 // The codec: frame records of ten bytes to messages and back (01, "Frame record"; 000, 3.2).
 #![tactic(auto)]
+
 mod heading;
 mod reading;
 mod writing;
