@@ -54,8 +54,8 @@ carries_in_words key total n p =
       λ e.
           let a = halves (eqb p.number n && same_key p.key key) e in
           let b = halves (eqb p.number n) a.0 in
-          record { number = eqb-true p.number n b.0; same_key_lem = same.0 b.1; same_total = eqb-true p.total total a.1 },
-      λ c. simp (eq-eqb p.number n c.number, same.1 c.same_key_lem, eq-eqb p.total total c.same_total),
+          record { number = eqb-true p.number n b.0; same_key = same.0 b.1; same_total = eqb-true p.total total a.1 },
+      λ c. simp (eq-eqb p.number n c.number, same.1 c.same_key, eq-eqb p.total total c.same_total),
     )
 
 -- the test of the fragments just before, in 01's words
@@ -169,7 +169,8 @@ module _ (j : Joiner) where
         ∙ split (carries p.key p.total k g)
         (λ t.
         let c = (carries_in_words p.key p.total k g).0 t in
-        simp (t, not_last g p k c e s, or-false) (rw (← c.same_key_lem, ← c.same_total) (astray_after k h g c.number a.1 a.0)))
+        let alike : chain g.key g.total k h ≡ chain p.key p.total k h = rw (c.same_key, c.same_total) in
+        simp (t, not_last g p k c e s, or-false) (astray_after k h g c.number a.1 a.0 ∙ ap not alike))
         (λ f. simp f (or-true (astray j (after j r h) g || last j g)))
 
     -- and where they are, the record holds their data
@@ -182,7 +183,7 @@ module _ (j : Joiner) where
         let b = (and-eq-true_iff (carries p.key p.total k g) (chain p.key p.total k h)).0 t in
         let c = (carries_in_words p.key p.total k g).0 b.0 in
         let l = not_last g p k c e s in
-        let v : chain g.key g.total k h ≡ true = rw (c.same_key_lem, c.same_total) b.1 in
+        let v : chain g.key g.total k h ≡ true = rw (c.same_key, c.same_total) b.1 in
         simp (astray_after k h g c.number a.1 a.0, v, l)
         (take_put (after j r h).held (j.width * g.number) g.bytes (j.width * suc k)
         (omega (arith, held_after h a.1))

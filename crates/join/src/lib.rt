@@ -1,6 +1,7 @@
 // Joining the fragments of a message in a work record (01, "Object table, store, work area"), over the bytes per fragment, with a key of one byte
 // or of two.
 #![tactic(auto)]
+
 mod joining;
 mod keeping;
 mod order;

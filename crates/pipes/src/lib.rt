@@ -36,7 +36,7 @@ pub fn append(part: &[u8], used: usize, buffer: &mut [u8]) -> usize
     }
     let n = least(part.len(), buffer.len() - used);
     let end = used + n;
-    bytes::copy(&part[..n], &mut buffer[used..end]);
+    buffer[used..end].copy_from_slice(&part[..n]);
     end
 }
 

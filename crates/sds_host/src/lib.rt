@@ -21,7 +21,7 @@ pub extern "C" fn sds_import_line(line: &[u8], frame: &mut [u8]) -> u32
     if got.number != 0 {
         return got.number as u32;
     }
-    bytes::copy(&got.frame, frame);
+    frame.copy_from_slice(&got.frame);
     0
 }
 
@@ -42,7 +42,7 @@ fn put_value(kind: u8, guest: u8, object: u8, id: u8, len: u8, place: usize, val
     let low = (place % 256) as u8;
     let high = (place / 256 % 256) as u8;
     let bytes = [kind, guest, object, id, len, 0, low, high];
-    bytes::copy(&bytes, value);
+    value.copy_from_slice(&bytes);
 }
 
 // Shows what is handed over.

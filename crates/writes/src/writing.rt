@@ -19,7 +19,7 @@ pub fn store_data(to: Attribute, body: Data, store: &mut [u8])
         return;
     }
     let places = octets::places_of(body);
-    bytes::copy(&places[0..n], &mut store[at..end]);
+    store[at..end].copy_from_slice(&places[0..n]);
 }
 
 // A short Write: the state is the attribute's one byte.
