@@ -8,7 +8,7 @@ unfolding data_of
 returns-then-is_astray_of_two c =
     let a = c.args in
     lost_join (subject_of a.h) a.number a.total (data_of a.body.now) c.requires.right a.work.now c.requires.placed
-    _ place.place_of.ensures _ astray.is-astray-of-two.ensures order.if1.true _ c.is_filling-filled.ensures _ c.refused.ensures _ c.clear.ensures
+    _ c.place_of-at.ensures _ c.is_astray_of_two.ensures c.if-is_astray_of_two.true _ c.is_filling-filled.ensures _ c.refused.ensures _ c.clear.ensures
 
 pub take_piece-value-requires : goal.take_piece-value-requires
 take_piece-value-requires c = c.requires
@@ -18,4 +18,4 @@ unfolding data_of
 returns c =
     let a = c.args in
     taken_join (subject_of a.h) a.number a.total (data_of a.body.now) c.requires.right a.work.now c.requires.placed
-    _ place.place_of.ensures _ astray.is-astray-of-two.ensures order.if1.false _ c.begins_over-dropped.ensures _ c.take_piece-value.ensures.0 _ c.take_piece-value.ensures.1
+    _ c.place_of-at.ensures _ c.is_astray_of_two.ensures c.if-is_astray_of_two.false _ c.begins_over-dropped.ensures _ c.take_piece-value.ensures.0 _ c.take_piece-value.ensures.1

@@ -6,7 +6,7 @@ pub returns : goal.returns
 unfolding tallied
 returns c =
     λ i. record {
-      c = c.one_more.ensures i;
-      c = (c.one_more-2.ensures ∙ ap (one_more c.args.t.finished) c.hands_over.ensures) i;
+      seen = c.one_more.ensures i;
+      finished = (c.one_more-2.ensures ∙ ap (one_more c.args.t.finished) c.hands_over.ensures) i;
       dropped = c.one_more-3.ensures i;
     }
