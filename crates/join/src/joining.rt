@@ -21,6 +21,6 @@ pub fn join_into(work: &[u8], at: usize, width: u8, number: u8, body: &[u8], par
     }
     let start = at + HEAD;
     let end = start + held;
-    part[..held].copy_from_slice(&work[start..end]);
-    part[held..].copy_from_slice(body);
+    octets::copy(&work[start..end], part);
+    octets::copy(body, &mut part[held..]);
 }

@@ -12,7 +12,7 @@ pub(crate) fn put_at(area: &mut [u8], place: usize, body: &[u8])
     ensures { area.new ≡ put area.old place body.now }
 {
     let end = place + body.len();
-    area[place..end].copy_from_slice(body);
+    octets::copy(body, &mut area[place..end]);
 }
 
 // Sets what stands before a record's data: status 1, key, total and next number.

@@ -1,9 +1,12 @@
 // Bytes as values: the byte of a place, and up to six of them with their count.
 #![tactic(auto)]
+
 mod bodies;
+mod copying;
 mod places;
 
 pub use bodies::{data_from, is_tidy, no_data, places_of};
+pub use copying::copy;
 pub use places::byte_at;
 
 // The most bytes that data has places for.

@@ -19,7 +19,7 @@ pub fn store_data(to: Attribute, body: Data, store: &mut [u8])
         return;
     }
     let places = octets::places_of(body);
-    store[at..end].copy_from_slice(&places[0..n]);
+    octets::copy(&places[0..n], &mut store[at..end]);
 }
 
 // A short Write: the state is the attribute's one byte.

@@ -35,5 +35,5 @@ returns c =
     let q : start + held - start ≡ a.width * a.number = omega arith in
     let fits = joins (length a.work.now) a.at a.width a.number (length a.body.now) (length a.part.now) (omega arith) (omega arith) in
     both_copied held (take (start + held - start) (drop start a.work.now)) a.body.now a.part.now _ _
-    (omega (arith, long)) (omega arith) c.copy_from_slice.ensures.after c.copy_from_slice-2.ensures.after
+    (omega (arith, long)) (omega arith) c.copy.ensures c.copy-2.ensures
     ∙ rw (q, fits)

@@ -16,4 +16,4 @@ pub returns : goal.returns
 returns c =
     let a = c.args in
     let body = places_cut a.body c.places_of-places.result c.places_of-places.ensures in
-    data_back a.to a.body c.if-body-gt-MOST.false _ body a.store.now _ c.if-store-end.false c.copy_from_slice.ensures.after
+    data_back a.to a.body c.if-body-gt-MOST.false _ body a.store.now _ c.if-store-end.false c.copy.ensures
