@@ -40,15 +40,24 @@ are_all k (c ∷ l) e = let h = halves (is_a k c) e in more h.0 (are_all k l h.1
 
 spells_counts : (d b : List ℕ) → Spells d b → length d ≡ 2 * length b
 spells_counts [] [] end = refl
+spells_counts [] (x ∷ b) s = elim s [ ]
+spells_counts (h ∷ []) b s = elim s [ ]
+spells_counts (h ∷ l ∷ d) [] s = elim s [ ]
 spells_counts (h ∷ l ∷ d) (x ∷ b) (pair p q s) = let n = spells_counts d b s in omega arith
 
 spells_hex : (d b : List ℕ) → Spells d b → all_are Hex d ≡ true
 spells_hex [] [] end = refl
+spells_hex [] (x ∷ b) s = elim s [ ]
+spells_hex (h ∷ []) b s = elim s [ ]
+spells_hex (h ∷ l ∷ d) [] s = elim s [ ]
 spells_hex (h ∷ l ∷ d) (x ∷ b) (pair p q s) = simp (p, q, spells_hex d b s)
 
 spells_bytes : (d b : List ℕ) → Spells d b → bytes_in d ≡ b
 unfolding bytes_in
 spells_bytes [] [] end = refl
+spells_bytes [] (x ∷ b) s = elim s [ ]
+spells_bytes (h ∷ []) b s = elim s [ ]
+spells_bytes (h ∷ l ∷ d) [] s = elim s [ ]
 spells_bytes (h ∷ l ∷ d) (x ∷ b) (pair p q s) = ap (λ (t : List ℕ). (hex_value h * 16 + hex_value l) ∷ t) (spells_bytes d b s)
 
 pub spelled : (d : List ℕ) → all_are Hex d ≡ true → length d % 2 ≡ 0 → Spells d (bytes_in d)
