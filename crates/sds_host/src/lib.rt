@@ -20,7 +20,7 @@ pub fn sds_import_line(line: &[u8], frame: &mut [u8]) -> u32
     if got.number != 0 {
         return got.number as u32;
     }
-    frame.copy_from_slice(&got.frame);
+    octets::copy(&got.frame, frame);
     0
 }
 
@@ -40,7 +40,7 @@ fn put_value(kind: u8, guest: u8, object: u8, id: u8, len: u8, place: usize, val
     let low = (place % 256) as u8;
     let high = (place / 256 % 256) as u8;
     let bytes = [kind, guest, object, id, len, 0, low, high];
-    value.copy_from_slice(&bytes);
+    octets::copy(&bytes, value);
 }
 
 // Shows what is handed over.

@@ -1,9 +1,10 @@
 use Rattle.candump.proofs.Texts.{not_ten, too_much, no_room, text_most, line_put}
 use native.Mathlib.Omega.{arith}
 use Prim.Native.Nat.{ℕ}
-use mathlib.Core.Path.{refl, ap}
+use mathlib.Core.Path.{refl, ap, ◌∙◌}
 use mathlib.Core.List.{List, ◌++◌}
-use lib.ListN.{drop}
+use lib.ListN.{length, drop}
+use Rattle.std.proofs.lemmas.List.{take_all}
 use Rattle.candump.proofs.exporting.put_line.Goals as goal
 
 pub returns-then-frame-ne-FRAME_SIZE : goal.returns-then-frame-ne-FRAME_SIZE
@@ -26,4 +27,4 @@ pub returns : goal.returns
 returns c =
     let x = c.args in
     line_put x.frame.now x.line.now c.if-frame-ne-FRAME_SIZE.false c.can_of-can.result c.can_of-can.ensures c.if-can-gt-MOST_DLC.false c.if-line-lt-LINE_ROOM.false _ refl _
-    (ap (λ (t : List ℕ). t ++ drop 16 x.line.now) c.copy_from_slice.ensures.after) _ _ c.put_text-n.ensures.value c.put_text-n.ensures.places_after
+    (c.copy.ensures ∙ ap (λ (t : List ℕ). t ++ drop 16 x.line.now) (take_all (length x.line.now) _ (omega (arith, c.if-line-lt-LINE_ROOM.false)))) _ _ c.put_text-n.ensures.value c.put_text-n.ensures.places_after
