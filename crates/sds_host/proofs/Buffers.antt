@@ -5,7 +5,7 @@ use mathlib.Core.List.{List, ◌++◌}
 use native.Mathlib.Omega.{arith}
 use lib.ListN.{length, take, drop}
 use borrow.Author.Tests.{eq-eqb, ne_eqb}
-use Rattle.laws.proofs.Bytes.{copied}
+use Rattle.octets.proofs.Copies.{copied_whole}
 use Rattle.codec.specs.Names.{frame_size}
 use Rattle.candump.specs.declared.Imported.{Imported}
 use Rattle.candump.specs.Importing.{import_of}
@@ -29,12 +29,12 @@ module _ (l r : List ℕ) where
         let t = eq-eqb (length r) frame_size ten in
         (simp (t, ← e), simp (t, ← e, ne_eqb got.number 0 h))
 
-    pub imported : got.number ≡ 0 → (x : List ℕ) → x ≡ take (length got.frame) got.frame ++ drop (length got.frame) r → Left 0 x
+    pub imported : got.number ≡ 0 → (x : List ℕ) → x ≡ take (length r) got.frame ++ drop (length got.frame) r → Left 0 x
     unfolding border_import_number border_import
     imported z x f =
         let t = eq-eqb (length r) frame_size ten in
         let n : length got.frame ≡ frame_size = rw e (import_size l) in
-        (simp (t, ← e, z), f ∙ copied got.frame r (omega arith) ∙ simp (t, ← e, z))
+        (simp (t, ← e, z), f ∙ copied_whole got.frame r (omega arith) ∙ simp (t, ← e, z))
 
 -- a number and a length are small
 pub put_fits : (r l : List ℕ) (p : Put) → p ≡ put_of r l → (p.number ≤ 3) × (p.len ≤ 36)

@@ -1,5 +1,6 @@
 // The border to C of what a host uses beside the device: byte slices and numbers, as in sds, and a tally. Nothing is asked of a caller.
 #![tactic(auto)]
+
 ghost use Rattle.std.specs.Prelude.{◌≡◌, length};
 ghost use Rattle.candump.specs.Exporting.{put_left};
 ghost use Rattle.sds_host.specs.Border.{border_import_number, border_import, border_export_answer, value_size, value_at, value_bytes, BorderCollected};
@@ -100,12 +101,7 @@ pub fn collected(frame: &[u8], work: &mut [u8], value: &mut [u8], t: Tally) -> O
 }
 
 // One frame into the collector (02, 2026-07). The number of the refusal or 0; the value's bytes are set where it is 0; every call alters the tally.
-pub fn sds_collect(
-    frame: &[u8],
-    work: &mut [u8],
-    value: &mut [u8],
-    tally: &mut Tally,
-) -> u32
+pub fn sds_collect(frame: &[u8], work: &mut [u8], value: &mut [u8], tally: &mut Tally) -> u32
     ensures { BorderCollected frame.now work.old value.old tally.old result work.new value.new tally.new }
 {
     let o = collected(frame, work, value, *tally);
