@@ -18,6 +18,7 @@ const DIGITS: [u8; 16] = *b"0123456789ABCDEF";
 const TEXT: usize = 16;
 
 // Puts two digits for each byte to the front.
+#[tactic(auto, using(crate::proofs::Stores::digits_stored, crate::proofs::Stores::digits_kept, crate::proofs::Digits::capital_at), unfolding(crate::specs::Frame::hex_of))]
 fn put_digits(digits: &[u8; 16], bytes: &[u8], places: &mut [u8])
     requires digits_value { digits.now ≡ capitals }
     requires bytes_in_bounds { 2 * length bytes.now ≤ length places.old }
@@ -33,6 +34,7 @@ fn put_digits(digits: &[u8; 16], bytes: &[u8], places: &mut [u8])
 }
 
 // Puts the digits of an identifier and the # behind them to the front.
+#[tactic(auto, using(crate::proofs::Digits::capital_at), unfolding(crate::specs::Frame::identifier_digits))]
 fn put_identifier(digits: &[u8; 16], identifier: u16, places: &mut [u8])
     requires digits_value { digits.now ≡ capitals }
     requires in_bounds { 4 ≤ length places.old }
@@ -45,6 +47,7 @@ fn put_identifier(digits: &[u8; 16], identifier: u16, places: &mut [u8])
 }
 
 // Puts what stands behind the # to the front, of a frame with these data bytes and more behind them, and gives its length.
+#[tactic(auto, using(crate::proofs::Stores::digits_count), unfolding(crate::specs::Frame::data_text))]
 fn put_data(digits: &[u8; 16], can: Can, body: &[u8], places: &mut [u8]) -> usize
     requires digits_value { digits.now ≡ capitals }
     requires dlc_le_most_dlc { can.dlc ≤ most_dlc }
@@ -64,6 +67,7 @@ fn put_data(digits: &[u8; 16], can: Can, body: &[u8], places: &mut [u8]) -> usiz
 }
 
 // Puts the text of a frame to the front, and gives its length.
+#[tactic(auto, using(crate::proofs::Texts::text_put, crate::proofs::Texts::text_length, crate::proofs::Texts::data_most))]
 fn put_text(digits: &[u8; 16], can: Can, body: &[u8], places: &mut [u8]) -> usize
     requires digits_value { digits.now ≡ capitals }
     requires dlc_le_most_dlc { can.dlc ≤ most_dlc }
@@ -101,6 +105,7 @@ pub fn put_line(frame: &[u8], line: &mut [u8]) -> Put
 }
 
 // The line of a record, by value. Refused are 1 and 2, as above.
+#[tactic(auto, using(crate::proofs::Texts::export_made))]
 pub fn export_record(frame: &[u8]) -> Exported
     ensures { result ≡ export_of frame.now }
 {

@@ -25,6 +25,7 @@ const MOST_IDENTIFIER: u16 = 0x7FF;
 const NO_IDENTIFIER: u16 = MOST_IDENTIFIER + 1;
 
 // A bracket, at least one digit, a point, six digits and a bracket.
+#[tactic(auto, using(crate::proofs::Places::time_placed, crate::proofs::Places::placed_time, crate::proofs::Places::refuted, crate::proofs::Places::same_test))]
 fn is_time(text: &[u8]) -> bool
     ensures { result ≡ is_time text.now }
 {
@@ -49,6 +50,7 @@ fn is_time(text: &[u8]) -> bool
     all_are(Kind::Decimal, &text[point + 1..closing])
 }
 
+#[tactic(auto, unfolding(crate::specs::Importing::is_interface))]
 fn is_interface(text: &[u8]) -> bool
     ensures { result ≡ is_interface text.now }
 {
@@ -62,6 +64,7 @@ fn is_interface(text: &[u8]) -> bool
 }
 
 // The number that three digits say; one above the highest identifier where one of them is none.
+#[tactic(auto, unfolding(crate::specs::Code::identifier_or))]
 fn identifier_of(a: u8, b: u8, c: u8) -> u16
     ensures { result ≡ identifier_or (hex_value a) (hex_value b) (hex_value c) }
 {
@@ -81,6 +84,7 @@ fn identifier_of(a: u8, b: u8, c: u8) -> u16
 }
 
 // R alone, or with a digit up to 8.
+#[tactic(auto, unfolding(crate::specs::Importing::is_remote))]
 fn is_remote(body: &[u8]) -> bool
     ensures { result ≡ is_remote body.now }
 {
@@ -125,6 +129,7 @@ fn bytes_of(body: &[u8]) -> Pairs
 }
 
 // The record with this CAN header and these data bytes.
+#[tactic(auto, using(crate::proofs::Places::eight_places), unfolding(codec::specs::Fields::can_bytes))]
 fn record_of(can: Can, bytes: [u8; 8]) -> Imported
     requires { length bytes ≡ most_dlc }
     ensures { result ≡ imported 0 (can_bytes can ++ bytes) }

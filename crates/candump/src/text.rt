@@ -5,6 +5,7 @@ ghost use Rattle.candump.specs.Text.{index_of, within, hex_value, is_a, all_are}
 use crate::Kind;
 
 // The place of the first such byte; the length where there is none. So a line is what stands before the place of the next line feed.
+#[tactic(auto, using(crate::proofs::Cuts::index_here, crate::proofs::Cuts::index_step, crate::proofs::Cuts::index_end))]
 pub fn place_of(byte: u8, text: &[u8]) -> usize
     ensures { result ≡ index_of byte text.now }
 {
@@ -38,6 +39,7 @@ pub(crate) fn is_within(lowest: u8, highest: u8, c: u8) -> bool
 }
 
 // The value of a hex digit of either case; 16 for a byte that is none.
+#[tactic(auto, unfolding(crate::specs::Text::hex_value))]
 pub(crate) fn hex_value(c: u8) -> u8
     ensures { result ≡ hex_value c }
 {
@@ -53,6 +55,7 @@ pub(crate) fn hex_value(c: u8) -> u8
     16
 }
 
+#[tactic(auto, unfolding(crate::specs::Text::is_a))]
 fn is_a(kind: Kind, c: u8) -> bool
     ensures { result ≡ is_a kind c }
 {
@@ -64,6 +67,7 @@ fn is_a(kind: Kind, c: u8) -> bool
 }
 
 // Whether each byte is of that kind.
+#[tactic(auto, using(crate::proofs::Cuts::all_step))]
 pub(crate) fn all_are(kind: Kind, text: &[u8]) -> bool
     ensures { result ≡ all_are kind text.now }
 {

@@ -23,21 +23,6 @@ pub loop-i-init : goal.loop-i-init
 unfolding bytes_in
 loop-i-init c = (refl, omega arith, omega arith, omega arith, refl, refl)
 
-pub overflow_mul-i : goal.overflow_mul-i
-overflow_mul-i c = omega arith
-
-pub bounds-body-i : goal.bounds-body-i
-bounds-body-i c = omega arith
-
-pub overflow_mul-i-in-loop-i : goal.overflow_mul-i-in-loop-i
-overflow_mul-i-in-loop-i c = omega arith
-
-pub overflow_add-i : goal.overflow_add-i
-overflow_add-i c = omega arith
-
-pub bounds-body-i-in-loop-i : goal.bounds-body-i-in-loop-i
-bounds-body-i-in-loop-i c = omega arith
-
 pub returns-then-high-gt15 : goal.returns-then-high-gt15
 returns-then-high-gt15 c =
     let d = c.args.body.now in
@@ -47,21 +32,6 @@ pub returns-then-low-gt15 : goal.returns-then-low-gt15
 returns-then-low-gt15 c =
     let d = c.args.body.now in
     unpaired d _ (λ e. omega (arith, value_at d (2 * c.loop-i.i + 1) (whole d e).hex (omega arith), c.hex_value-low.ensures))
-
-pub overflow_mul-bytes : goal.overflow_mul-bytes
-overflow_mul-bytes c = omega arith
-
-pub overflow_add-bytes : goal.overflow_add-bytes
-overflow_add-bytes c = omega arith
-
-pub bounds-bytes-i : goal.bounds-bytes-i
-bounds-bytes-i c = omega arith
-
-pub overflow_add-i-in-loop-i : goal.overflow_add-i-in-loop-i
-overflow_add-i-in-loop-i c = omega arith
-
-pub loop-i-smaller : goal.loop-i-smaller
-loop-i-smaller c = omega arith
 
 pub loop-i-preserved : goal.loop-i-preserved
 loop-i-preserved c =
