@@ -5,24 +5,23 @@ use mathlib.Core.Bool.{true, false, ◌&&◌}
 use mathlib.Core.List.{List, [], ◌∷◌, ◌++◌}
 use native.Mathlib.Omega.{arith}
 use native.Mathlib.Numerals.{add-one}
-use lib.ListN.{length, get_or, take, drop, length-drop}
-use lib.Seq.{split_at, take_at, drop-cons, drop-append-add, length-take-le, take-length}
+use lib.ListN.{length, get_or, take, drop, length-drop, drop_of_length-le}
+use lib.Seq.{split_at, take_at, drop-cons, drop-append-add, length-take-le}
 use lib.Dec.{eqb}
-use borrow.Author.Tests.{eqb-true, eq-eqb}
-use Rattle.bytes.specs.Bytes.{index_of, index_after, slice}
+use borrow.Author.Tests.{eqb-true, eq-eqb, ne_eqb}
 use Rattle.laws.proofs.Tests.{split, clash, halves}
 use Rattle.candump.specs.declared.Kind.{Kind}
-use Rattle.candump.specs.Text.{is_a, all_are, up_to, behind}
+use Rattle.candump.specs.Text.{is_a, all_are, index_of, up_to, behind}
 
 -- the place of a byte is in the list, or its length
 pub index_most : (c : ℕ) (l : List ℕ) → index_of c l ≤ length l
-unfolding index_of index_after
+unfolding index_of
 index_most c [] = omega arith
 index_most c (b ∷ l) = split (eqb b c) (λ t. simp t (omega arith)) (λ f. simp f (omega (arith, index_most c l)))
 
 -- and there it stands
 pub index_found : (c : ℕ) (l : List ℕ) → index_of c l < length l → get_or l (index_of c l) 0 ≡ c
-unfolding index_of index_after
+unfolding index_of
 index_found c [] h = absurd (omega (arith, h))
 index_found c (b ∷ l) h =
     split (eqb b c)
@@ -45,7 +44,7 @@ found_before c l h = omega (arith, simp length-drop at h)
 -- all bytes before it of a kind of which it is not: the place is their count
 module _ (k : Kind) (c : ℕ) (no : is_a k c ≡ false) where
   pub cut : (a b : List ℕ) → all_are k a ≡ true → index_of c (a ++ c ∷ b) ≡ length a
-  unfolding index_of index_after
+  unfolding index_of
   cut [] b all = simp (eq-eqb c c refl)
   cut (x ∷ a) b all =
       let h = halves (is_a k x) all in
@@ -59,10 +58,18 @@ module _ (k : Kind) (c : ℕ) (no : is_a k c ≡ false) where
   pub cut_behind : (a b : List ℕ) → all_are k a ≡ true → behind c (a ++ c ∷ b) ≡ b
   cut_behind a b all = rw (cut a b all) (drop-append-add a (c ∷ b) 1)
 
--- a search of the whole list
-pub whole_slice : (l : List ℕ) → slice 0 (length l) l ≡ l
-unfolding slice
-whole_slice l = take-length l
+-- a search, byte by byte: it ends at this byte, goes on behind another one, and ends behind the text
+pub index_here : (c : ℕ) (l : List ℕ) (i : ℕ) → i < length l → get_or l i 0 ≡ c → index_of c (drop i l) ≡ 0
+unfolding index_of
+index_here c l i h e = rw (drop-cons l i 0 h) (simp (eq-eqb (get_or l i 0) c e))
+
+pub index_step : (c : ℕ) (l : List ℕ) (i : ℕ) → i < length l → (get_or l i 0 ≡ c → ⊥) → index_of c (drop i l) ≡ suc (index_of c (drop (i + 1) l))
+unfolding index_of
+index_step c l i h e = rw (add-one i, drop-cons l i 0 h) (simp (ne_eqb (get_or l i 0) c e))
+
+pub index_end : (c : ℕ) (l : List ℕ) (i : ℕ) → length l ≤ i → index_of c (drop i l) ≡ 0
+unfolding index_of
+index_end c l i h = simp (drop_of_length-le l {i = i} h)
 
 -- kinds, byte by byte
 pub all_step : (k : Kind) (l : List ℕ) (i : ℕ) → i < length l → all_are k (drop i l) ≡ is_a k (get_or l i 0) && all_are k (drop (i + 1) l)

@@ -5,7 +5,6 @@ use mathlib.Core.Bool.{true, false, ◌&&◌, ◌||◌}
 use mathlib.Core.List.{List, [], ◌∷◌, ◌++◌, append_assoc}
 use native.Mathlib.Omega.{arith}
 use lib.ListN.{length, get_or, take, length-append}
-use Rattle.bytes.specs.Bytes.{index_of}
 use lib.Seq.{take_at, get_or_at, take_all, take-suc, length-take-le}
 use lib.Dec.{eqb, ltb, leb}
 use borrow.Author.Tests.{eqb-true, ltb-true, ltb-false, leb-true, eq-eqb, ne_eqb, lt-ltb, le-leb, not-false}
@@ -15,7 +14,7 @@ use Rattle.laws.proofs.Checks.{none_holds}
 use Rattle.candump.specs.declared.Imported.{Imported}
 use Rattle.candump.specs.declared.Kind.{Kind}
 use Rattle.candump.specs.declared.Kind.TheVariants.{Decimal, Visible, Hex}
-use Rattle.candump.specs.Text.{opening, point, closing, space, mark, remote, within, hex_value, is_a, all_are, up_to, behind}
+use Rattle.candump.specs.Text.{opening, point, closing, space, mark, remote, within, hex_value, is_a, all_are, index_of, up_to, behind}
 use Rattle.candump.specs.Frame.{can, record_of}
 use Rattle.candump.specs.Importing.{most_line, most_interface, time_of, interface_of, frame_of, is_seconds, is_micros, is_time, is_interface, identifier_in, is_identified, is_remote, is_bytes, bytes_in, remote_dlc, record_in, import_checks, imported, frame_imported, import_of}
 use Rattle.candump.specs.Grammar.{All, Spells, Says, Line}
@@ -41,15 +40,24 @@ are_all k (c ∷ l) e = let h = halves (is_a k c) e in more h.0 (are_all k l h.1
 
 spells_counts : (d b : List ℕ) → Spells d b → length d ≡ 2 * length b
 spells_counts [] [] end = refl
+spells_counts [] (x ∷ b) s = elim s [ ]
+spells_counts (h ∷ []) b s = elim s [ ]
+spells_counts (h ∷ l ∷ d) [] s = elim s [ ]
 spells_counts (h ∷ l ∷ d) (x ∷ b) (pair p q s) = let n = spells_counts d b s in omega arith
 
 spells_hex : (d b : List ℕ) → Spells d b → all_are Hex d ≡ true
 spells_hex [] [] end = refl
+spells_hex [] (x ∷ b) s = elim s [ ]
+spells_hex (h ∷ []) b s = elim s [ ]
+spells_hex (h ∷ l ∷ d) [] s = elim s [ ]
 spells_hex (h ∷ l ∷ d) (x ∷ b) (pair p q s) = simp (p, q, spells_hex d b s)
 
 spells_bytes : (d b : List ℕ) → Spells d b → bytes_in d ≡ b
 unfolding bytes_in
 spells_bytes [] [] end = refl
+spells_bytes [] (x ∷ b) s = elim s [ ]
+spells_bytes (h ∷ []) b s = elim s [ ]
+spells_bytes (h ∷ l ∷ d) [] s = elim s [ ]
 spells_bytes (h ∷ l ∷ d) (x ∷ b) (pair p q s) = ap (λ (t : List ℕ). (hex_value h * 16 + hex_value l) ∷ t) (spells_bytes d b s)
 
 pub spelled : (d : List ℕ) → all_are Hex d ≡ true → length d % 2 ≡ 0 → Spells d (bytes_in d)

@@ -1,5 +1,5 @@
 -- What the tests of a line's parts let through, and what is imported of them.
-use Prim.Native.Nat.{ℕ, suc, ◌-◌, ◌/◌, ◌%◌, ◌<◌, ◌≤◌}
+use Prim.Native.Nat.{ℕ, suc, ◌/◌, ◌%◌, ◌<◌, ◌≤◌}
 use mathlib.Core.Path.{◌≡◌, refl, sym, ap, ◌∙◌}
 use mathlib.Core.Bool.{true, false, ◌&&◌, ◌||◌}
 use mathlib.Core.List.{List, []}
@@ -7,14 +7,13 @@ use native.Mathlib.Omega.{arith}
 use lib.ListN.{length, drop}
 use lib.Dec.{eqb, ltb, leb}
 use borrow.Author.Tests.{eqb-true, ltb-true, leb-true, lt-ltb, le-ltb, not-false}
-use Rattle.bytes.specs.Bytes.{index_of}
 use Rattle.laws.specs.Checks.{first_of, holds_at}
 use Rattle.laws.proofs.Bytes.{length_padded}
 use Rattle.laws.proofs.Checks.{none_holds}
 use Rattle.laws.proofs.Tests.{split, halves}
 use Rattle.codec.specs.Fields.{can_bytes}
 use Rattle.candump.specs.declared.Kind.TheVariants.{Hex}
-use Rattle.candump.specs.Text.{mark, all_are, up_to, behind}
+use Rattle.candump.specs.Text.{mark, all_are, index_of, up_to, behind}
 use Rattle.candump.specs.Frame.{can, record_of}
 use Rattle.candump.specs.Importing.{most_line, time_of, interface_of, frame_of, is_time, is_interface, is_identified, is_remote, is_bytes, bytes_in, remote_dlc, record_in, not_imported, imported, identifier_in, import_checks, data_imported, frame_imported, import_of}
 use Rattle.candump.proofs.Stores.{bytes_count}

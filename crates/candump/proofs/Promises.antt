@@ -9,7 +9,6 @@ use lib.ListN.{length, take, drop, replicate}
 use lib.Seq.{take_at, take_all, length-take-le}
 use lib.Dec.{eqb, ltb}
 use borrow.Author.Tests.{eqb-true, eqb-false, eq-eqb, ne_eqb, ltb-true, ltb-false, le-ltb}
-use Rattle.bytes.specs.Bytes.{index_of, index_after}
 use Rattle.laws.specs.Bytes.{Bytes}
 use Rattle.laws.specs.Checks.{first_of, holds_at, FirstAt}
 use Rattle.laws.proofs.Tests.{split}
@@ -17,7 +16,7 @@ use Rattle.laws.proofs.Bytes.{length_padded}
 use Rattle.laws.proofs.Checks.{given_exactly, none_holds, first_most}
 use Rattle.codec.specs.Names.{frame_size, most_dlc}
 use Rattle.codec.specs.Fields.{can_of}
-use Rattle.candump.specs.Text.{line_feed, up_to, behind}
+use Rattle.candump.specs.Text.{line_feed, index_of, up_to, behind}
 use Rattle.candump.specs.Lines.{in_front, lines_of}
 use Rattle.candump.specs.Frame.{unused_cleared}
 use Rattle.candump.specs.Importing.{most_line, import_checks, not_imported, imported, import_of}
@@ -152,7 +151,7 @@ module _ (r : List ℕ) (b : Bytes r) (ten : length r ≡ frame_size) (few : (ca
 
 -- the first line of a text stands up to its first line feed, and the others are the lines behind that
 pub first_line : (t : List ℕ) → 0 < length t → lines_of t ≡ up_to line_feed t ∷ lines_of (behind line_feed t)
-unfolding lines_of index_of index_after
+unfolding lines_of index_of
 first_line [] h = absurd (omega arith)
 first_line (b ∷ []) h = split (eqb b line_feed) (λ t. simp t) (λ f. simp f)
 first_line (b ∷ x ∷ t) h =

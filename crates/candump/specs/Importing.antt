@@ -1,12 +1,11 @@
 -- Reading a line (02, 2026-02: "one line a frame: `(seconds.micros) interface ID#data`, one space between").
 use Rattle.std.specs.Prelude.{ℕ, ◌+◌, ◌-◌, ◌*◌, ◌/◌, ◌%◌, Bool, cond, not, ◌&&◌, ◌||◌, List, [], ◌∷◌, length, take, drop, replicate, ltb, leb, eqb}
-use Rattle.bytes.specs.Bytes.{index_of}
 use Rattle.laws.specs.Bytes.{byte_at}
 use Rattle.laws.specs.Checks.{Check, first_of}
 use Rattle.codec.specs.Names.{frame_size, most_dlc}
 use Rattle.candump.specs.declared.Kind.TheVariants.{Decimal, Visible, Hex}
 use Rattle.candump.specs.declared.Imported.{Imported}
-use Rattle.candump.specs.Text.{opening, point, closing, space, mark, remote, zero_digit, within, hex_value, all_are, up_to, behind}
+use Rattle.candump.specs.Text.{opening, point, closing, space, mark, remote, zero_digit, within, hex_value, all_are, index_of, up_to, behind}
 use Rattle.candump.specs.Frame.{most_identifier, can, record_of}
 
 -- "line over 128 bytes"

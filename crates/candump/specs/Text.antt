@@ -1,6 +1,5 @@
 -- Text: bytes by name, digits, and what stands before and behind a byte (02, 2026-02).
-use Rattle.std.specs.Prelude.{ℕ, ◌+◌, ◌-◌, Bool, true, cond, ◌&&◌, List, [], ◌∷◌, take, drop, ltb, leb}
-use Rattle.bytes.specs.Bytes.{index_of}
+use Rattle.std.specs.Prelude.{ℕ, suc, ◌+◌, ◌-◌, Bool, true, cond, ◌&&◌, List, [], ◌∷◌, take, drop, eqb, ltb, leb}
 use Rattle.candump.specs.declared.Kind.{Kind}
 use Rattle.candump.specs.declared.Kind.TheVariants.{Decimal, Visible, Hex}
 
@@ -55,6 +54,11 @@ is_a Hex c = ltb (hex_value c) 16
 abbrev pub all_are : Kind → List ℕ → Bool
 all_are k [] = true
 all_are k (c ∷ l) = is_a k c && all_are k l
+
+-- the place of the first byte c; the length where there is none
+unfoldable pub index_of : ℕ → List ℕ → ℕ
+index_of c [] = 0
+index_of c (b ∷ l) = cond (eqb b c) 0 (suc (index_of c l))
 
 -- what stands before the first byte c: all where there is none
 abbrev pub up_to : ℕ → List ℕ → List ℕ

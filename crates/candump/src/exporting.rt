@@ -91,7 +91,7 @@ pub fn put_line(frame: &[u8], line: &mut [u8]) -> Put
         return Put { number: 3, len: 0 };
     }
     let front = FRONT;
-    line.copy_from_slice(&front);
+    line[..TEXT].copy_from_slice(&front);
     let digits = DIGITS;
     let n = put_text(&digits, can, &frame[2..], &mut line[TEXT..]);
     Put {

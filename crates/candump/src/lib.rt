@@ -1,5 +1,6 @@
 // Lines of can-utils logs to frame records and back (02, 2026-02). It knows text and frames, and nothing of a device.
 #![tactic(auto)]
+
 mod exporting;
 mod importing;
 mod text;

@@ -1,7 +1,6 @@
 // Bytes of text: their kinds, hex digits, and where a part of a text ends.
 ghost use Rattle.std.specs.Prelude.{◌≡◌, ◌+◌, drop};
-ghost use Rattle.bytes.specs.Bytes.{index_of};
-ghost use Rattle.candump.specs.Text.{within, hex_value, is_a, all_are};
+ghost use Rattle.candump.specs.Text.{index_of, within, hex_value, is_a, all_are};
 
 use crate::Kind;
 
@@ -9,7 +8,14 @@ use crate::Kind;
 pub fn place_of(byte: u8, text: &[u8]) -> usize
     ensures { result ≡ index_of byte text.now }
 {
-    bytes::scan::find(text, 0, text.len(), byte)
+    let mut place = 0;
+    while place < text.len() {
+        if text[place] == byte {
+            return place;
+        }
+        place += 1;
+    }
+    place
 }
 
 // What stands behind a place; nothing where the text does not go so far.
