@@ -22,7 +22,7 @@ use Rattle.codec.specs.Fields.{header_of}
 use Rattle.codec.specs.Reading.{read_checks, subject_of, payload_of, message_of, read_of}
 use Rattle.codec.specs.Code.{payload_in}
 use Rattle.codec.specs.Writing.{subject_fits, carried}
-use Rattle.codec.proofs.Headers.{unbarred, long_of, ten_of}
+use Rattle.codec.proofs.Headers.{unbarred, long_of_lem, ten_of}
 use Rattle.codec.proofs.Fits.{subject_fits_lem}
 use Rattle.codec.proofs.Images.{payload_is}
 use Rattle.codec.proofs.Long.{got, message_short, message_plain, message_fragment}
@@ -146,7 +146,7 @@ module _ (r : List ℕ) (e : first_of (read_checks r) ≡ 0) where
       split (eqb h.flag 1)
       (λ f. rw (message_fragment r long (eqb-true h.flag 1 f)) (simp (z, f)))
       (λ f.
-      let n : length (payload_of r) ≡ h.dlc - 2 = simp (length-take, length-drop) (omega (arith, t.0, (long_of h t.1 long).most)) in
+      let n : length (payload_of r) ≡ h.dlc - 2 = simp (length-take, length-drop) (omega (arith, t.0, (long_of_lem h t.1 long).most)) in
       rw (message_plain r long (eqb-false h.flag 1 f), n) (simp (z, f))))
 
   -- the guest of a frame in long form has a record, and a fragment's number and total stand behind its ID
@@ -159,7 +159,7 @@ module _ (r : List ℕ) (e : first_of (read_checks r) ≡ 0) where
   pub numbered : ((header_of r).dlc ≡ 0 → ⊥) → (header_of r).flag ≡ 1 → Numbered (length (payload_of r))
   numbered z f =
       let t = ten_of r e in
-      let l = long_of (header_of r) t.1 z in
+      let l = long_of_lem (header_of r) t.1 z in
       let n : length (payload_of r) ≡ (header_of r).dlc - 2 = simp (length-take, length-drop) (omega (arith, t.0, l.most)) in
       record { least = omega (arith, n, l.flagged f); most = omega (arith, n, l.most) }
 

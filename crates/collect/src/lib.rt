@@ -1,5 +1,6 @@
 // The host's side of a long Read (02, 2026-07): what guests answer, frame by frame, becomes whole values. Nothing is known here of tables and stores.
 #![tactic(auto)]
+
 mod collecting;
 mod counting;
 mod showing;

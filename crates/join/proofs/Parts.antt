@@ -34,15 +34,13 @@ put_mid_lem at end l m b n e =
 
 -- bytes copied to the front of a part, and then others into all that is behind them
 pub both_copied : (held : ℕ) (front body part mid last : List ℕ) → length front ≡ held → length part ≡ held + length body
-    → mid ≡ take (length front) front ++ drop (length front) part
-    → last ≡ take (length body) body ++ drop (length body) (take (length mid - held) (drop held mid))
-    → put_mid held (length mid - held) mid last ≡ front ++ body
+    → mid ≡ front → last ≡ body
+    → put_mid held (length (mid ++ drop held part) - held) (mid ++ drop held part) last ≡ front ++ body
 both_copied held front body part mid last n k e f =
-    let long : length mid ≡ length part = ap length e ∙ simp (length-append, length-take, length-drop) (omega arith) in
-    let room = mid_len held (length mid) mid (omega arith) in
-    let whole : last ≡ body = f ∙ copied body (take (length mid - held) (drop held mid)) (omega (arith, room)) in
-    let first : take held mid ≡ front = ap (take held) e ∙ rw (take-length front) (take_at front (drop (length front) part) held n) in
-    rw (whole, Post-is held (length mid) mid (omega arith), drop-length mid, append-nil body, first)
+    let m : length mid ≡ held = ap length e ∙ n in
+    let whole : length (mid ++ drop held part) ≡ held + length body = simp (length-append, length-drop) (omega arith) in
+    let first : take held (mid ++ drop held part) ≡ front = take_at mid (drop held part) held m ∙ e in
+    rw (Post-is held (length (mid ++ drop held part)) (mid ++ drop held part) (omega arith), drop-length (mid ++ drop held part), f, append-nil body, first)
 
 -- a fragment's data put at their place, and then what stands before a record's data: all that is put of a fragment whose key has one byte
 pub both_put : (j : Joiner) (at place : ℕ) (p : Piece) (l m k : List ℕ) → drop 1 p.key ≡ [] → place ≡ at + head_size + j.width * p.number

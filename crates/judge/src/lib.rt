@@ -1,5 +1,6 @@
 // Judging: what a frame asks for, by checks 1 and 3 to 12 (01, "One frame, one reply"). No state is looked at and nothing is altered.
 #![tactic(auto)]
+
 mod frame_checks;
 mod judging;
 mod switching;

@@ -1,6 +1,7 @@
 // The library's border to C: byte slices and numbers. A slice is a pointer and then a length of 64 bits; each answer is 32 bits wide, since a
 // narrower one is not widened on every target. Nothing is asked of a caller.
 #![tactic(auto)]
+
 mod messages;
 
 ghost use Rattle.std.specs.Prelude.{◌≡◌};
@@ -12,8 +13,7 @@ ghost use Rattle.guest.specs.Step.{areas, call, step_of};
 use messages::{MESSAGE, bordered, message_at, put_message};
 
 // One frame: what the device answers, number + 256 * count. Its frames stand at the front of the output.
-#[unsafe(no_mangle)]
-pub extern "C" fn sds_step(
+pub fn sds_step(
     frame: &[u8],
     own: u32,
     table: &[u8],
@@ -29,8 +29,7 @@ pub extern "C" fn sds_step(
 }
 
 // Reads a record into the 16 bytes of a message. Refused are 1 (not 16 bytes, or not ten), 3, 5 and 8, and the message buffer stays.
-#[unsafe(no_mangle)]
-pub extern "C" fn sds_read(frame: &[u8], message: &mut [u8]) -> u32
+pub fn sds_read(frame: &[u8], message: &mut [u8]) -> u32
     ensures { (result ≡ border_read_number frame.now message.old) × (message.new ≡ border_read frame.now message.old) }
 {
     if message.len() != MESSAGE {
@@ -45,8 +44,7 @@ pub extern "C" fn sds_read(frame: &[u8], message: &mut [u8]) -> u32
 }
 
 // Writes the record that carries a message. Refused are 1 (not 16 bytes, or not ten) and then 3 (no readable frame carries it), and the record stays.
-#[unsafe(no_mangle)]
-pub extern "C" fn sds_write(message: &[u8], frame: &mut [u8]) -> u32
+pub fn sds_write(message: &[u8], frame: &mut [u8]) -> u32
     ensures { (result ≡ border_write_number message.now frame.old) × (frame.new ≡ border_write message.now frame.old) }
 {
     if message.len() != MESSAGE {
@@ -62,8 +60,7 @@ pub extern "C" fn sds_write(message: &[u8], frame: &mut [u8]) -> u32
 }
 
 // The size of what a data descriptor describes; 0 where it is refused. It is 32 bits wide so that one above 16 bits is refused and not cut.
-#[unsafe(no_mangle)]
-pub extern "C" fn sds_descriptor_size(descriptor: u32) -> u32
+pub fn sds_descriptor_size(descriptor: u32) -> u32
     ensures { result ≡ border_size descriptor }
 {
     if 65535 < descriptor {
@@ -73,8 +70,7 @@ pub extern "C" fn sds_descriptor_size(descriptor: u32) -> u32
 }
 
 // What a step says of a table and a store of this length, whatever the frame: 1 (their lengths), 2 (not well formed), or nothing, 0.
-#[unsafe(no_mangle)]
-pub extern "C" fn sds_table_check(table: &[u8], store_len: u64) -> u32
+pub fn sds_table_check(table: &[u8], store_len: u64) -> u32
     ensures { result ≡ first_of (table_checks table.now store_len) }
 {
     if !table::lengths_fit(table.len(), store_len as usize) {
@@ -87,8 +83,7 @@ pub extern "C" fn sds_table_check(table: &[u8], store_len: u64) -> u32
 }
 
 // The code that the error frame of a refusal carries; 0 where no error frame is put with this number.
-#[unsafe(no_mangle)]
-pub extern "C" fn sds_error_code(number: u32) -> u32
+pub fn sds_error_code(number: u32) -> u32
     ensures { result ≡ code_of number }
 {
     answers::code_of(number) as u32

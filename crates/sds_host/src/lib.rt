@@ -10,8 +10,7 @@ use collect::{Collected, Tally, Value};
 pub const VALUE: usize = 8;
 
 // The record of a line of a can-utils log. Refused are 5 (not ten bytes), before the others; then 1 to 4, as import_line has them; and the record stays.
-#[unsafe(no_mangle)]
-pub extern "C" fn sds_import_line(line: &[u8], frame: &mut [u8]) -> u32
+pub fn sds_import_line(line: &[u8], frame: &mut [u8]) -> u32
     ensures { (result ≡ border_import_number line.now frame.old) × (frame.new ≡ border_import line.now frame.old) }
 {
     if frame.len() != codec::FRAME_SIZE {
@@ -26,8 +25,7 @@ pub extern "C" fn sds_import_line(line: &[u8], frame: &mut [u8]) -> u32
 }
 
 // The line of a record, at the front of its buffer: number + 256 * length. Refused are 1, 2 and 3, as put_line has them, and the buffer stays.
-#[unsafe(no_mangle)]
-pub extern "C" fn sds_export_record(frame: &[u8], line: &mut [u8]) -> u32
+pub fn sds_export_record(frame: &[u8], line: &mut [u8]) -> u32
     ensures { (result ≡ border_export_answer frame.now line.old) × (line.new ≡ put_left frame.now line.old) }
 {
     let put = candump::put_line(frame, line);
@@ -102,8 +100,7 @@ pub fn collected(frame: &[u8], work: &mut [u8], value: &mut [u8], t: Tally) -> O
 }
 
 // One frame into the collector (02, 2026-07). The number of the refusal or 0; the value's bytes are set where it is 0; every call alters the tally.
-#[unsafe(no_mangle)]
-pub extern "C" fn sds_collect(
+pub fn sds_collect(
     frame: &[u8],
     work: &mut [u8],
     value: &mut [u8],

@@ -1,0 +1,54 @@
+use Prim.Native.Nat.{ℕ}
+use mathlib.Core.Path.{sym, ap, ◌∙◌}
+use borrow.Author.Tests.{not-true, not-false}
+use Rattle.codec.specs.declared.Header.{Header}
+use Rattle.codec.specs.Code.{payload_in}
+use Rattle.collect.proofs.Groups.{guest_below, payload_part, numbered, misfit_call, malformed_call, short_call, unanswering_call, whole_call, fragment_call}
+use Rattle.collect.proofs.collecting.collect.Goals as goal
+
+pub returns-then-work-ne-AREA : goal.returns-then-work-ne-AREA
+returns-then-work-ne-AREA c =
+    let a = c.args in
+    misfit_call a.frame.now a.work.now c.if-work-ne-AREA.true _ c.refused.ensures
+
+pub returns-then-refusal_of-ne0 : goal.returns-then-refusal_of-ne0
+returns-then-refusal_of-ne0 c =
+    let a = c.args in
+    malformed_call a.frame.now a.work.now c.if-work-ne-AREA.false (λ z. c.if-refusal_of-ne0.true (c.refusal_of.ensures ∙ z)) _ c.refused-then-refusal_of-ne0.ensures
+
+pub returns-then-h-eq0 : goal.returns-then-h-eq0
+returns-then-h-eq0 c =
+    let a = c.args in
+    short_call a.frame.now a.work.now c.if-work-ne-AREA.false (sym c.refusal_of.ensures ∙ c.if-refusal_of-ne0.false)
+    (rw c.header_of-h.ensures at c.if-h-eq0.true) _ c.refused-then-h-eq0.ensures
+
+pub returns-then-not-answers_read : goal.returns-then-not-answers_read
+returns-then-not-answers_read c =
+    let a = c.args in
+    let is = c.header_of-h.ensures in
+    let got = sym c.refusal_of.ensures ∙ c.if-refusal_of-ne0.false in
+    unanswering_call a.frame.now a.work.now c.if-work-ne-AREA.false got (rw is at c.if-h-eq0.false)
+    (rw is at (sym c.answers_read.ensures ∙ not-true _ c.if-not-answers_read.true-raw)) _ c.refused-then-not-answers_read.ensures
+
+pub returns-then-h-ne1 : goal.returns-then-h-ne1
+returns-then-h-ne1 c =
+    let a = c.args in
+    let is = c.header_of-h.ensures in
+    let got = sym c.refusal_of.ensures ∙ c.if-refusal_of-ne0.false in
+    whole_call a.frame.now a.work.now c.if-work-ne-AREA.false got (rw is at c.if-h-eq0.false) (rw is at (sym c.answers_read.ensures ∙ not-false _ c.if-not-answers_read.false-raw)) (rw is at c.if-h-ne1.true) _ (rw is at c.whole.ensures)
+
+pub fragment-requires : goal.fragment-requires
+fragment-requires c =
+    let a = c.args in
+    let is = c.header_of-h.ensures in
+    let got = sym c.refusal_of.ensures ∙ c.if-refusal_of-ne0.false in
+    let payload = c.payload_in.ensures ∙ ap (λ (d : ℕ). payload_in d a.frame.now) (ap (λ (h : Header). h.dlc) is) ∙ payload_part a.frame.now got in
+    (record { sized = c.if-work-ne-AREA.false; below = rw is (guest_below a.frame.now got) }, rw payload (numbered a.frame.now got (rw is at c.if-h-eq0.false) (rw is at c.if-h-ne1.false)))
+
+pub returns : goal.returns
+returns c =
+    let a = c.args in
+    let is = c.header_of-h.ensures in
+    let got = sym c.refusal_of.ensures ∙ c.if-refusal_of-ne0.false in
+    let payload = c.payload_in.ensures ∙ ap (λ (d : ℕ). payload_in d a.frame.now) (ap (λ (h : Header). h.dlc) is) ∙ payload_part a.frame.now got in
+    fragment_call a.frame.now a.work.now c.if-work-ne-AREA.false got (rw is at c.if-h-eq0.false) (rw is at (sym c.answers_read.ensures ∙ not-false _ c.if-not-answers_read.false-raw)) (rw is at c.if-h-ne1.false) _ _ (rw (is, payload) at c.fragment.ensures)
