@@ -1,6 +1,6 @@
 -- What a buffer holds after bytes were put behind those that it held.
 use Prim.Native.Nat.{ℕ, ◌+◌, ◌-◌, ◌%◌, ◌<◌, ◌≤◌, min}
-use mathlib.Core.Path.{◌≡◌, sym, ap, ◌∙◌}
+use mathlib.Core.Path.{◌≡◌, refl, sym, ap, ◌∙◌}
 use mathlib.Core.List.{List, [], ◌∷◌, ◌++◌, append-nil}
 use native.Mathlib.Omega.{arith}
 use lib.ListN.{length, take, drop, replicate, length-append, length-take}
@@ -12,6 +12,7 @@ use Rattle.laws.specs.Put.{put}
 use Rattle.laws.proofs.Bytes.{length_padded, drop_zeros}
 use Rattle.laws.proofs.Put.{put_nothing, part_back}
 use Rattle.laws.proofs.Tests.{split}
+use Rattle.pipes.specs.declared.Complaint.{Complaint}
 use Rattle.pipes.specs.Buffers.{fitting, appended, appended_count, sent_from, complaint_room, complaint_text, complaint_of}
 
 take_min : (m : ℕ) (p : List ℕ) → take (min (length p) m) p ≡ take m p
@@ -114,6 +115,15 @@ pub complaint_made : (kind place : List ℕ) (number : ℕ) (rule : List ℕ) {n
     → record { len = n; text = x } ≡ complaint_of kind place number rule
 unfolding complaint_of complaint_text
 complaint_made kind place number rule f = rw (f.used, f.holds)
+
+-- as many bytes as a complaint says are its text
+pub complaint_read : (kind place : List ℕ) (number : ℕ) (rule : List ℕ) (c : Complaint) → c ≡ complaint_of kind place number rule
+    → take c.len c.text ≡ complaint_text kind place number rule
+unfolding complaint_of
+complaint_read kind place number rule c e =
+    let t = complaint_text kind place number rule in
+    let zeros : List ℕ = replicate (complaint_room - length t) 0 in
+    rw e (take_at t zeros (length t) refl)
 
 -- ---- what waits is written where there is no room
 

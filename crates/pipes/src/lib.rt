@@ -1,11 +1,13 @@
 // What the programs on pipes share: buffers that are filled from the front, and the line that tells what was refused.
 #![tactic(auto)]
 
-ghost use Rattle.std.specs.Prelude.{◌≡◌, min, take};
-ghost use Rattle.pipes.specs.Buffers.{appended, appended_count, sent_from, next_of, complaint_of as complaintOf};
+ghost use Rattle.std.specs.Prelude.{◌≡◌, min, take, decimal, OnOk};
+ghost use Rattle.std.specs.Io.KnownBytes.{Appends};
+ghost use Rattle.pipes.specs.Buffers.{appended, appended_count, sent_from, next_of, complaint_text, complaint_of as complaintOf};
 
 use itoa::Buffer;
-use std::io::{Print, Stderr, Stdout};
+use std::io;
+use std::io::{Stderr, Stdout, Write};
 
 // The bytes of the longest complaint.
 pub const COMPLAINT_ROOM: usize = 128;
@@ -54,7 +56,8 @@ pub fn send(to: Stdout, part: &[u8], used: usize, buffer: &mut [u8]) -> usize
         return append(part, used, buffer);
     }
     if buffer.len() - used < part.len() {
-        let _ = to.write_all(front(used, buffer));
+        let mut output = to;
+        let _ = output.write_all(front(used, buffer));
         return append(part, 0, buffer);
     }
     append(part, used, buffer)
@@ -85,10 +88,24 @@ pub fn complaint_of(kind: &[u8], place: &[u8], number: u8, rule: &[u8]) -> Compl
     Complaint { len, text }
 }
 
-// Tells on standard error what was refused. Where that cannot be written nobody is told.
-pub fn tell(to: Stderr, kind: &[u8], place: u64, number: u8, rule: &[u8]) {
+// Writes the line that tells what was refused, with the place in digits.
+fn write_complaint<W: Write>(
+    to: &mut W,
+    kind: &[u8],
+    place: u64,
+    number: u8,
+    rule: &[u8],
+) -> io::Result<()>
+    ensures { OnOk result (Appends (W.contents to.old) (W.contents to.new) (complaint_text kind.now (decimal place) number rule.now)) }
+{
     let mut digits = Buffer::new();
     let c = complaint_of(kind, digits.format(place).as_bytes(), number, rule);
     let text = c.text;
-    let _ = to.write_all(front(c.len, &text));
+    to.write_all(front(c.len, &text))
+}
+
+// Tells on standard error what was refused. Where that cannot be written nobody is told.
+pub fn tell(to: Stderr, kind: &[u8], place: u64, number: u8, rule: &[u8]) {
+    let mut errors = to;
+    let _ = write_complaint(&mut errors, kind, place, number, rule);
 }
