@@ -4,8 +4,7 @@ use mathlib.Core.Path.{◌≡◌}
 use mathlib.Core.List.{List}
 use native.Mathlib.Omega.{arith}
 use lib.ListN.{length, take, drop, length-take, length-drop}
-use Rattle.bytes.specs.Bytes.{index_of}
-use Rattle.candump.specs.Text.{line_feed}
+use Rattle.candump.specs.Text.{line_feed, index_of}
 use Rattle.candump.proofs.Cuts.{index_most}
 
 pub place_most : (b : List ℕ) (at n : ℕ) → n ≡ index_of line_feed (take (length b - at) (drop at b)) → n ≤ length b - at

@@ -3,6 +3,13 @@
 // line waits for those behind it.
 #![tactic(auto)]
 
+ghost use Rattle.std.specs.Prelude.{◌≤◌, length};
+
+use std::io::{Read, Stderr, Stdin, Stdout};
+
+// The bytes that are read, and those that wait to be written, at most.
+const BLOCK: usize = 65536;
+
 // What is held of a line that is not whole yet. One byte more than the longest line that is imported tells that it is too long, so no more is held.
 const HELD: usize = candump::MOST_LINE + 1;
 
@@ -14,22 +21,25 @@ struct Progress {
     out: usize,
 }
 
-fn complain(line: u64, number: u8) {
+fn complain(to: Stderr, line: u64, number: u8) {
     match number {
-        1 => pipes::tell(b"line", line, number, b"it is over 128 bytes long"),
+        1 => pipes::tell(to, b"line", line, number, b"it is over 128 bytes long"),
         2 => pipes::tell(
+            to,
             b"line",
             line,
             number,
             b"it does not begin with (seconds.micros) and an interface of 1 to 15 bytes",
         ),
         3 => pipes::tell(
+            to,
             b"line",
             line,
             number,
             b"behind the interface there are not three hex digits up to 7FF and a #",
         ),
         _ => pipes::tell(
+            to,
             b"line",
             line,
             number,
@@ -39,18 +49,18 @@ fn complain(line: u64, number: u8) {
 }
 
 // A line is whole: sends its record, or tells why it is refused.
-fn finish_line(p: Progress, held: &[u8], out: &mut [u8]) -> Progress {
+fn finish_line(to: Stdout, errors: Stderr, p: Progress, held: &[u8], out: &mut [u8]) -> Progress {
     let line = pipes::next(p.lines);
     let got = candump::import_line(pipes::front(p.held, held));
     if got.number != 0 {
-        complain(line, got.number);
+        complain(errors, line, got.number);
         return Progress {
             held: 0,
             lines: line,
             out: p.out,
         };
     }
-    let used = pipes::send(&got.frame, p.out, out);
+    let used = pipes::send(to, &got.frame, p.out, out);
     Progress {
         held: 0,
         lines: line,
@@ -59,7 +69,14 @@ fn finish_line(p: Progress, held: &[u8], out: &mut [u8]) -> Progress {
 }
 
 // The next bytes of the log: each line that ends in them is finished, and the front of the last one is held.
-fn take_block(start: Progress, block: &[u8], held: &mut [u8], out: &mut [u8]) -> Progress {
+fn take_block(
+    to: Stdout,
+    errors: Stderr,
+    start: Progress,
+    block: &[u8],
+    held: &mut [u8],
+    out: &mut [u8],
+) -> Progress {
     let mut p = start;
     let mut at = 0;
     while at < block.len() {
@@ -69,38 +86,47 @@ fn take_block(start: Progress, block: &[u8], held: &mut [u8], out: &mut [u8]) ->
         if end == rest.len() {
             return p;
         }
-        p = finish_line(p, held, out);
+        p = finish_line(to, errors, p, held, out);
         at += end + 1;
     }
     p
 }
 
-fn main() {
-    let mut block = io::large_buffer();
+// How many bytes of the input came, and stand at the front of the block. A read that fails counts as the input's end.
+fn read_some(from: Stdin, block: &mut [u8]) -> usize
+    ensures { result ≤ length block.new }
+{
+    let mut input = from;
+    input.read(block).unwrap_or(0)
+}
+
+fn main(rt: HostRuntime) {
+    let from = rt.stdin();
+    let to = rt.stdout();
+    let errors = rt.stderr();
+    let mut block = [0; BLOCK];
     let mut held = [0; HELD];
-    let mut out = io::large_buffer();
+    let mut out = [0; BLOCK];
     let mut p = Progress {
         held: 0,
         lines: 0,
         out: 0,
     };
     // A proved loop has to end, and nothing says that an input does: no input uses up so many turns.
-    let mut turns = u64::MAX;
-    while turns > 0 {
-        let n = io::count(libc::read(libc::STDIN_FILENO, &mut block), &block);
+    for _ in 0..u64::MAX {
+        let n = read_some(from, &mut block);
         if n == 0 {
             break;
         }
-        p = take_block(p, &block[..n], &mut held, &mut out);
-        if !io::write_all(libc::STDOUT_FILENO, pipes::front(p.out, &out)) {
+        p = take_block(to, errors, p, &block[..n], &mut held, &mut out);
+        if to.write_all(pipes::front(p.out, &out)).is_err() {
             return;
         }
         p.out = 0;
-        turns -= 1;
     }
     // a last line without its end
     if p.held > 0 {
-        p = finish_line(p, &held, &mut out);
-        io::write_all(libc::STDOUT_FILENO, pipes::front(p.out, &out));
+        p = finish_line(to, errors, p, &held, &mut out);
+        let _ = to.write_all(pipes::front(p.out, &out));
     }
 }

@@ -1,10 +1,10 @@
 -- What a buffer holds after bytes were put behind those that it held.
 use Prim.Native.Nat.{ℕ, ◌+◌, ◌-◌, ◌%◌, ◌<◌, ◌≤◌, min}
-use mathlib.Core.Path.{◌≡◌, sym, ap, ◌∙◌}
+use mathlib.Core.Path.{◌≡◌, refl, sym, ap, ◌∙◌}
 use mathlib.Core.List.{List, [], ◌∷◌, ◌++◌, append-nil}
 use native.Mathlib.Omega.{arith}
-use lib.ListN.{length, take, drop, replicate, length-append, length-take, drop_of_length-le}
-use lib.Seq.{take-nil, take_all, take-length, take_at, take-append-le, take-append-add, drop-append-add, length-take-le}
+use lib.ListN.{length, take, drop, replicate, length-append, length-take}
+use lib.Seq.{take-nil, take_all, take_at, take-append-le, take-append-add, drop-append-add, length-take-le}
 use lib.Dec.{ltb}
 use borrow.Author.Tests.{ltb-true, ltb-false, le-leb, lt-leb, lt-ltb, le-ltb}
 use Rattle.laws.specs.Bytes.{padded}
@@ -12,6 +12,7 @@ use Rattle.laws.specs.Put.{put}
 use Rattle.laws.proofs.Bytes.{length_padded, drop_zeros}
 use Rattle.laws.proofs.Put.{put_nothing, part_back}
 use Rattle.laws.proofs.Tests.{split}
+use Rattle.pipes.specs.declared.Complaint.{Complaint}
 use Rattle.pipes.specs.Buffers.{fitting, appended, appended_count, sent_from, complaint_room, complaint_text, complaint_of}
 
 take_min : (m : ℕ) (p : List ℕ) → take (min (length p) m) p ≡ take m p
@@ -48,16 +49,14 @@ module _ (p : List ℕ) (u : ℕ) (b : List ℕ) where
 
   -- a part of the buffer was lent for so many bytes, and came back with them
   pub put_in : u ≤ length b → (n : ℕ) → n ≡ min (length p) (length b - u) → (x : List ℕ)
-      → x ≡ take (length (take n p)) (take n p) ++ drop (length (take n p)) (take (u + n - u) (drop u b))
+      → x ≡ take n p
       → Left (u + n) (take u b ++ (x ++ drop (u + n - u) (drop u b)))
   unfolding appended_count appended
   put_in h n e x f =
       let k : u + n - u ≡ n = omega arith in
       let m : length (take n p) ≡ n = length-take-le n p (omega arith) in
-      let gone : drop n (take n (drop u b)) ≡ [] = drop_of_length-le (take n (drop u b)) {i = n} (simp length-take (omega arith)) in
-      let q : x ≡ take n p = f ∙ rw (take-length (take n p), k, m, gone) (append-nil (take n p)) in
       let same : take n p ≡ fitting p u b = ap (λ (j : ℕ). take j p) e ∙ take_min (length b - u) p in
-      (omega arith, rw k (part_back b x u n (ap length q ∙ m) ∙ ap (put b u) (q ∙ same)))
+      (omega arith, rw k (part_back b x u n (ap length f ∙ m) ∙ ap (put b u) (f ∙ same)))
 
   pub counted : (n : ℕ) → n ≡ min (length p) (length b - u) → n ≡ length (take n p)
   counted n e = sym (length-take-le n p (omega arith))
@@ -116,6 +115,15 @@ pub complaint_made : (kind place : List ℕ) (number : ℕ) (rule : List ℕ) {n
     → record { len = n; text = x } ≡ complaint_of kind place number rule
 unfolding complaint_of complaint_text
 complaint_made kind place number rule f = rw (f.used, f.holds)
+
+-- as many bytes as a complaint says are its text
+pub complaint_read : (kind place : List ℕ) (number : ℕ) (rule : List ℕ) (c : Complaint) → c ≡ complaint_of kind place number rule
+    → take c.len c.text ≡ complaint_text kind place number rule
+unfolding complaint_of
+complaint_read kind place number rule c e =
+    let t = complaint_text kind place number rule in
+    let zeros : List ℕ = replicate (complaint_room - length t) 0 in
+    rw e (take_at t zeros (length t) refl)
 
 -- ---- what waits is written where there is no room
 

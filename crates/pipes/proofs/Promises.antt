@@ -32,7 +32,7 @@ pub append_determined : (κs : _) (args : _) (r r' : _) (s s' : _) → append.Po
 append_determined κs args r r' s s' p q = (p.0 ∙ sym q.0, p.1 ∙ sym q.1)
 
 pub send_determined : (κs : _) (args : _) (r r' : _) (s s' : _) → send.Post κs args r s → send.Post κs args r' s'
-    → (r ≡ r') × (s.1.1.0.now ≡ s'.1.1.0.now)
+    → (r ≡ r') × (s.1.1.1.0.now ≡ s'.1.1.1.0.now)
 send_determined κs args r r' s s' p q = (p.0 ∙ sym q.0, p.1 ∙ sym q.1)
 
 pub next_determined : (κs : _) (args : _) (r r' : _) (s s' : _) → next.Post κs args r s → next.Post κs args r' s' → r ≡ r'

@@ -1,13 +1,19 @@
 // What the programs on pipes share: buffers that are filled from the front, and the line that tells what was refused.
 #![tactic(auto)]
-ghost use Rattle.std.specs.Prelude.{◌≡◌, min, take};
-ghost use Rattle.pipes.specs.Buffers.{appended, appended_count, sent_from, next_of, complaint_of as complaintOf};
+
+ghost use Rattle.std.specs.Prelude.{◌≡◌, min, take, decimal, OnOk};
+ghost use Rattle.std.specs.Io.KnownBytes.{Appends};
+ghost use Rattle.pipes.specs.Buffers.{appended, appended_count, sent_from, next_of, complaint_text, complaint_of as complaintOf};
+
+use itoa::Buffer;
+use std::io;
+use std::io::{Stderr, Stdout, Write};
 
 // The bytes of the longest complaint.
 pub const COMPLAINT_ROOM: usize = 128;
 
 // A line that tells what was refused, with zeros behind it.
-#[derive(Drop)]
+#[derive(Clone, Copy)]
 pub struct Complaint {
     pub len: usize,
     pub text: [u8; 128],
@@ -40,8 +46,9 @@ pub fn append(part: &[u8], used: usize, buffer: &mut [u8]) -> usize
     end
 }
 
-// Puts bytes behind those that wait for standard output, which are written first where there is no room for more.
-pub fn send(part: &[u8], used: usize, buffer: &mut [u8]) -> usize
+// Puts bytes behind those that wait for standard output, which are written first where there is no room for more. That they could not be written shows
+// where the next are.
+pub fn send(to: Stdout, part: &[u8], used: usize, buffer: &mut [u8]) -> usize
     ensures { (result ≡ appended_count part.now (sent_from part.now used buffer.old) buffer.old)
         × (buffer.new ≡ appended part.now (sent_from part.now used buffer.old) buffer.old) }
 {
@@ -49,7 +56,8 @@ pub fn send(part: &[u8], used: usize, buffer: &mut [u8]) -> usize
         return append(part, used, buffer);
     }
     if buffer.len() - used < part.len() {
-        io::write_all(libc::STDOUT_FILENO, front(used, buffer));
+        let mut output = to;
+        let _ = output.write_all(front(used, buffer));
         return append(part, 0, buffer);
     }
     append(part, used, buffer)
@@ -80,11 +88,24 @@ pub fn complaint_of(kind: &[u8], place: &[u8], number: u8, rule: &[u8]) -> Compl
     Complaint { len, text }
 }
 
-// Tells on standard error what was refused.
-pub fn tell(kind: &[u8], place: u64, number: u8, rule: &[u8]) {
-    let mut digits = [0; 20];
-    let n = io::decimal(place, &mut digits);
-    let c = complaint_of(kind, &digits[..n], number, rule);
+// Writes the line that tells what was refused, with the place in digits.
+fn write_complaint<W: Write>(
+    to: &mut W,
+    kind: &[u8],
+    place: u64,
+    number: u8,
+    rule: &[u8],
+) -> io::Result<()>
+    ensures { OnOk result (Appends (W.contents to.old) (W.contents to.new) (complaint_text kind.now (decimal place) number rule.now)) }
+{
+    let mut digits = Buffer::new();
+    let c = complaint_of(kind, digits.format(place).as_bytes(), number, rule);
     let text = c.text;
-    io::write_all(libc::STDERR_FILENO, front(c.len, &text));
+    to.write_all(front(c.len, &text))
+}
+
+// Tells on standard error what was refused. Where that cannot be written nobody is told.
+pub fn tell(to: Stderr, kind: &[u8], place: u64, number: u8, rule: &[u8]) {
+    let mut errors = to;
+    let _ = write_complaint(&mut errors, kind, place, number, rule);
 }

@@ -1,49 +1,47 @@
 // Runs each worked example of 000, section 5, through the codec: read, told in the words of the paper's DESCRIPTION row, and written back.
 #![tactic(auto)]
+
 mod examples;
 mod words;
 
 use codec::{Answer, Message};
 use examples::{COUNT, LABEL, ROW};
+use std::io;
 
 // Whether writing the message gives the record, all ten bytes of it. No example has the byte that is in each place before.
 fn written_back(m: Message, frame: &[u8]) -> bool {
     let mut again = [0xFF_u8; codec::FRAME_SIZE];
-    if codec::write(m, &mut again) != 0 {
-        return false;
-    }
-    check::same(&again, frame)
+    codec::write(m, &mut again) == 0 && &again[..] == frame
 }
 
-fn print_ending(m: Message, frame: &[u8]) {
+fn ending(m: Message, frame: &[u8]) -> &'static str {
     if written_back(m, frame) {
-        words::print_text(b"; written back\n");
+        "written back"
     } else {
-        words::print_text(b"; NOT WRITTEN BACK\n");
+        "NOT WRITTEN BACK"
     }
 }
 
-fn show(label: &[u8], frame: &[u8]) {
-    words::print_text(label);
+fn show(rt: &impl Print, label: &[u8], frame: &[u8]) -> io::Result<()> {
+    rt.write_all(label)?;
     match codec::read(frame) {
         Answer::Got(m) => {
-            words::print_message(m);
-            print_ending(m, frame);
+            words::print_message(rt, m)?;
+            let end = ending(m, frame);
+            println!(rt; "; {end}")
         }
-        Answer::Refused(n) => {
-            words::print_number(b" refused ", n);
-            words::print_text(b"\n");
-        }
+        Answer::Refused(n) => println!(rt; " refused {n}"),
     }
 }
 
-fn main() {
+fn main(rt: HostRuntime) -> io::Result<()> {
     let examples = examples::ROWS;
     let rows = &examples[..];
     for i in 0..COUNT {
         let at = i * ROW;
         let middle = at + LABEL;
         let end = at + ROW;
-        show(&rows[at..middle], &rows[middle..end]);
+        show(&rt, &rows[at..middle], &rows[middle..end])?;
     }
+    Ok(())
 }

@@ -1,89 +1,77 @@
 // What was read, in words.
 use codec::{Message, Subject};
-use libc::STDOUT_FILENO;
 use octets::Data;
-
-pub(crate) fn print_text(text: &[u8]) {
-    io::write_all(STDOUT_FILENO, text);
-}
-
-pub(crate) fn print_number(before: &[u8], n: u8) {
-    print_text(before);
-    io::print_decimal(STDOUT_FILENO, n as u64);
-}
+use std::io;
 
 // Dir/Pri 1 means that the address is the source (000, 3.2.1.1).
-fn print_address(dir: u8, address: u8) {
+fn print_address(rt: &impl Print, dir: u8, address: u8) -> io::Result<()> {
     if dir == 1 {
-        print_number(b" from ", address);
+        print!(rt; " from {address}")
     } else {
-        print_number(b" to ", address);
+        print!(rt; " to {address}")
     }
 }
 
 // 000, figure 3.8.
-fn print_response(response: u8) {
+fn response_name(response: u8) -> &'static str {
     match response {
-        codec::REQUEST => print_text(b" request"),
-        codec::SUCCESSFUL => print_text(b" successful"),
-        codec::ERRONEOUS => print_text(b" error"),
-        _ => print_text(b" wait"),
+        codec::REQUEST => "request",
+        codec::SUCCESSFUL => "successful",
+        codec::ERRONEOUS => "error",
+        _ => "wait",
     }
 }
 
-fn print_subject(u: Subject) {
-    print_address(u.dir, u.address);
-    print_number(b" service ", u.service);
-    print_response(u.response);
-    print_number(b" object ", u.object);
-    print_number(b" id ", u.id);
+fn print_subject(rt: &impl Print, u: Subject) -> io::Result<()> {
+    print_address(rt, u.dir, u.address)?;
+    let service = u.service;
+    let response = response_name(u.response);
+    let object = u.object;
+    let id = u.id;
+    print!(rt; " service {service} {response} object {object} id {id}")
 }
 
-fn print_byte(x: u8) {
-    print_text(b" ");
-    io::print_hex(STDOUT_FILENO, x as u64, 2);
-}
-
-fn print_data(d: Data) {
+fn print_data(rt: &impl Print, d: Data) -> io::Result<()> {
     let places = octets::places_of(d);
-    let n = d.len as usize;
-    print_text(b" data");
+    print!(rt; " data")?;
     for i in 0..6 {
-        if i < n {
-            print_byte(places[i]);
+        if i < d.len as usize {
+            let byte = places[i];
+            print!(rt; " {byte:02x}")?;
         }
     }
+    Ok(())
 }
 
 // 000, figure 3.4.
-fn print_short_service(service: u8) {
+fn print_short_service(rt: &impl Print, service: u8) -> io::Result<()> {
     match service {
-        codec::CHANGE_OFF => print_text(b" Change of State OFF"),
-        codec::CHANGE_ON => print_text(b" Change of State ON"),
-        codec::CHANGE_OFF_ACK => print_text(b" Change of State OFF ACK"),
-        codec::CHANGE_ON_ACK => print_text(b" Change of State ON ACK"),
-        codec::WRITE_OFF => print_text(b" Write OFF State"),
-        codec::WRITE_ON => print_text(b" Write ON State"),
-        codec::WRITE_OFF_ACK => print_text(b" Write OFF State ACK"),
-        codec::WRITE_ON_ACK => print_text(b" Write ON State ACK"),
-        _ => print_number(b" service ", service),
+        codec::CHANGE_OFF => print!(rt; " Change of State OFF"),
+        codec::CHANGE_ON => print!(rt; " Change of State ON"),
+        codec::CHANGE_OFF_ACK => print!(rt; " Change of State OFF ACK"),
+        codec::CHANGE_ON_ACK => print!(rt; " Change of State ON ACK"),
+        codec::WRITE_OFF => print!(rt; " Write OFF State"),
+        codec::WRITE_ON => print!(rt; " Write ON State"),
+        codec::WRITE_OFF_ACK => print!(rt; " Write OFF State ACK"),
+        codec::WRITE_ON_ACK => print!(rt; " Write ON State ACK"),
+        _ => print!(rt; " service {service}"),
     }
 }
 
-pub(crate) fn print_message(m: Message) {
+pub(crate) fn print_message(rt: &impl Print, m: Message) -> io::Result<()> {
     match m {
         Message::Short {
             dir,
             address,
             service,
         } => {
-            print_address(dir, address);
-            print_text(b" short");
-            print_short_service(service);
+            print_address(rt, dir, address)?;
+            print!(rt; " short")?;
+            print_short_service(rt, service)
         }
         Message::Plain { about, body } => {
-            print_subject(about);
-            print_data(body);
+            print_subject(rt, about)?;
+            print_data(rt, body)
         }
         Message::Fragment {
             about,
@@ -91,10 +79,9 @@ pub(crate) fn print_message(m: Message) {
             total,
             body,
         } => {
-            print_subject(about);
-            print_number(b" fragment ", number);
-            print_number(b" of ", total);
-            print_data(body);
+            print_subject(rt, about)?;
+            print!(rt; " fragment {number} of {total}")?;
+            print_data(rt, body)
         }
     }
 }
