@@ -7,7 +7,7 @@ clang=$tools/bin/clang
 need llvm-objdump llvm
 
 # The kit brings no headers; those of the C compiler that hold for every target (stdint.h, stddef.h) serve.
-headers=$("${cross}gcc" -print-file-name=include)
+headers=$(gcc -print-file-name=include)
 
 fail() {
     echo "${0##*/}: $*" >&2
@@ -44,7 +44,7 @@ module_text() {
     done
     grep -q '^target datalayout = "e-m:e-p:32:32-' "$3" || fail 'the module has not the data layout of a 32-bit processor'
     grep -q "^target triple = \"${target%%-*}-" "$3" || fail "the module is not for ${target%%-*}"
-    ! grep -E 'x86|"probe-stack"|"target-cpu"' "$3" >&2 || fail 'the module still speaks of x86-64'
+    ! grep -E 'x86|"probe-stack"|"stack-probe-size"|"target-cpu"' "$3" >&2 || fail 'the module still speaks of x86-64'
     ! cmp -s "$3.plain" "$3" || fail 'the module has no attributes #0 of nounwind functions'
     ! grep '^define ' "$3" | grep -v ' #0 {$' >&2 || fail 'a function of the module has attributes of its own'
 }

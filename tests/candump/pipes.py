@@ -84,7 +84,7 @@ def peak_of(live):
 
 
 def memory_stays(programs):
-    """a line of 50 MB: the process must not have grown by a tenth of it. An emulator's own growth is far below that."""
+    """a line of 50 MB: the process must not have grown by a tenth of it."""
     length = 50000000
     program, text, answers = next(some(programs))
     with Live(program) as live:

@@ -8,7 +8,7 @@ import subprocess
 import termios
 import time
 
-PATIENCE = 120  # seconds for anything that must happen: an emulated machine is slow
+PATIENCE = 120  # seconds for anything that must happen: a busy machine is slow
 PIPE_MOST = 65536  # bytes that are taken from a pipe, or put into one, at a time
 REFUSAL = re.compile(r"((?:line|record) [1-9][0-9]*: ([0-9])) (\S.*)")
 

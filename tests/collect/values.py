@@ -17,7 +17,7 @@ import threading
 import time
 
 from guests import (GATE, MISSING, PLACES, Guest, Outcome, Value, answer_frames, cleared, fragmented, line_of, mixed, outcome, value_of, whole_of)
-from link import (ACTION, CAN_FRAME, CHANGE_ON, EMULATOR, ERROR, ERROR_FLAG, EVENT, EXTENDED, LIMIT, NO_LINK, READ, SUCCESSFUL, WRITE_ON_ACK, Failure,
+from link import (ACTION, CAN_FRAME, CHANGE_ON, ERROR, ERROR_FLAG, EVENT, EXTENDED, LIMIT, NO_LINK, READ, SUCCESSFUL, WRITE_ON_ACK, Failure,
                   Host, Peer, Program, expect, frame_of, read_line, record)
 
 HERE = os.path.dirname(os.path.abspath(__file__))
@@ -570,7 +570,7 @@ def closed_descriptors(_):
     """a link does not become standard output"""
     path = os.path.join(SCRATCH, "link")
     for closing, words, status, name in (">&-", [f"unix:{path}"], 1, "output"), (">&-", [], 1, "output"), ("<&-", [], 2, "input"):
-        started = ["sh", "-c", f'exec "$@" {closing}', "sh", *EMULATOR, COLLECT, *words]
+        started = ["sh", "-c", f'exec "$@" {closing}', "sh", COLLECT, *words]
         done = subprocess.run(started, stdin=subprocess.DEVNULL, capture_output=True, timeout=LIMIT)
         expect(f"status, output and message with {closing}", (done.returncode, done.stdout, done.stderr.decode()),
                (status, b"", f"collect: standard {name}: {os.strerror(errno.EBADF)}\n"))

@@ -17,7 +17,7 @@ import tempfile
 import threading
 import time
 
-from link import (ACTION, CAN_FRAME, CHANGE_OFF, CHANGE_ON, CHANGE_ON_ACK, EMULATOR, ERROR, ERROR_FLAG, EVENT, EXPLAIN, EXTENDED, GATEWAY, LIMIT,
+from link import (ACTION, CAN_FRAME, CHANGE_OFF, CHANGE_ON, CHANGE_ON_ACK, ERROR, ERROR_FLAG, EVENT, EXPLAIN, EXTENDED, GATEWAY, LIMIT,
                   READ, WATCHED, WRITE, WRITE_OFF, WRITE_OFF_ACK, WRITE_ON, WRITE_ON_ACK, Failure, Gateway, Host, Peer, expect, frame_of, read_line,
                   record)
 
@@ -560,7 +560,7 @@ def bad_options():
     stream = Gateway(Device(), kind=socket.SOCK_STREAM)
     expect("message", stream.ends(2)[1].split(": ", 2)[2], "no open SOCK_SEQPACKET socket\n")
     for program in GATEWAY, EXPLAIN:
-        helped = subprocess.run([*EMULATOR, program, "--help"], capture_output=True, timeout=LIMIT, check=True)
+        helped = subprocess.run([program, "--help"], capture_output=True, timeout=LIMIT, check=True)
         expect("help", (helped.stdout[:6], helped.stderr), (b"usage:", b""))
 
 
@@ -596,7 +596,7 @@ def kept(name):
 
 
 def explained(content, *options, status=0):
-    done = subprocess.run([*EMULATOR, EXPLAIN, *options], input=content, capture_output=True, timeout=LIMIT)
+    done = subprocess.run([EXPLAIN, *options], input=content, capture_output=True, timeout=LIMIT)
     expect(f"explain's status ({done.stderr.decode().strip()})", done.returncode, status)
     return done.stdout.decode()
 
@@ -684,7 +684,7 @@ def explain_short_answers():
 
 
 def explain_a_live_pipe():
-    process = subprocess.Popen([*EMULATOR, EXPLAIN], stdin=subprocess.PIPE, stdout=subprocess.PIPE, bufsize=0)
+    process = subprocess.Popen([EXPLAIN], stdin=subprocess.PIPE, stdout=subprocess.PIPE, bufsize=0)
     for rec, line in (NINE.read(3, 10), b"to   9    Read    Request     object 3   attribute 10\n"), \
             (record(36, 0xA0), b"to   36   short   Write ON State\n"):
         process.stdin.write(rec)
@@ -699,7 +699,7 @@ def explain_errors():
                              (("--table", table, "--address", "9"), f"{table}: record 0 (00 00 00 00 00 00 00 00): the length is 0"),
                              (("--table", table, "--address", "126"), "address 126: not a number from 0 to 125"),
                              (("--loud",), "unrecognized option '--loud'"), (("nosuch",), f"nosuch: {os.strerror(errno.ENOENT)}")]:
-        done = subprocess.run([*EMULATOR, EXPLAIN, *options], input=b"", capture_output=True, timeout=LIMIT)
+        done = subprocess.run([EXPLAIN, *options], input=b"", capture_output=True, timeout=LIMIT)
         expect("status, output and message", (done.returncode, done.stdout, done.stderr.decode()), (2, b"", f"explain: {message}\n"))
 
 
@@ -719,13 +719,7 @@ def vcan():
         link = socket.socket(socket.AF_CAN, socket.SOCK_RAW, socket.CAN_RAW)
         link.bind((name,))
         device = Device()
-        try:
-            gateway = Gateway(device, "--trace", link=f"can:{name}")
-        except Failure as failure:
-            # the kernel has just made such a socket for us, so it is the emulator that refuses it
-            if EMULATOR and any(os.strerror(code) in str(failure) for code in (errno.EAFNOSUPPORT, errno.EPROTONOSUPPORT, errno.ENOSYS)):
-                return "the emulator has no CAN sockets"
-            raise
+        gateway = Gateway(device, "--trace", link=f"can:{name}")
         rename_both(Peer(link))
         link.close()
         gateway.stop()

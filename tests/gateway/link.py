@@ -5,11 +5,9 @@ import signal
 import socket
 import struct
 import subprocess
-import sys
 import time
 
-LIMIT = 120  # seconds for anything that must happen: an emulated machine is slow
-EMULATOR = sys.argv[1:]
+LIMIT = 120  # seconds for anything that must happen: a busy machine is slow
 GATEWAY, WATCHED, EXPLAIN = (f"target/hosts/{name}" for name in ("gateway", "calls/gateway", "explain"))
 CAN_FRAME = struct.Struct("=IB2xB8s")  # identifier and flags, length, raw DLC over 8, data
 EXTENDED, REMOTE, ERROR_FLAG = 0x80000000, 0x40000000, 0x20000000
@@ -158,7 +156,7 @@ class Program:
             ours, theirs = socket.socketpair(socket.AF_UNIX, kind)
             theirs.setsockopt(socket.SOL_SOCKET, socket.SO_SNDBUF, 65536)  # a queue that is soon full, on every machine
             self.peer, passed, link = Peer(ours), (theirs.fileno(),), f"fd:{theirs.fileno()}"
-        self.process = subprocess.Popen([*EMULATOR, *words, *([] if link is NO_LINK else [link])], pass_fds=passed, env=environment,
+        self.process = subprocess.Popen([*words, *([] if link is NO_LINK else [link])], pass_fds=passed, env=environment,
                                         bufsize=0, stdin=stdin, stdout=stdout, stderr=subprocess.PIPE)
         Program.started.append(self)
         if self.peer:
