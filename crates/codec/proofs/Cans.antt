@@ -1,9 +1,9 @@
 -- The CAN header of a record and the two bytes that hold it: each is read off the other.
 use Prim.Native.Nat.{ℕ, ◌+◌, ◌*◌, ◌/◌, ◌%◌, ◌≤◌, ◌<◌}
-use mathlib.Core.Path.{◌≡◌, refl}
+use mathlib.Core.Path.{◌≡◌}
 use mathlib.Core.List.{List, [], ◌∷◌, ◌++◌}
 use native.Mathlib.Omega.{arith}
-use lib.ListN.{length, get_or, take}
+use lib.ListN.{length, take}
 use Rattle.laws.specs.Bytes.{Bytes}
 use Rattle.codec.specs.declared.Can.{Can}
 use Rattle.codec.specs.Fields.{header_of, can_of, can_bytes}

@@ -5,7 +5,7 @@ use mathlib.Core.Bool.{true, or-true}
 use mathlib.Core.List.{List, [], ◌++◌, append-nil, append_assoc}
 use native.Mathlib.Omega.{arith}
 use lib.ListN.{length, take, drop, length-append, length-take, length-drop, get_or-eq_default}
-use lib.Seq.{take-take, take_at, take-length, drop-length}
+use lib.Seq.{take-take, take_at, drop-length}
 use lib.Dec.{leb}
 use borrow.Author.Tests.{leb-true, leb-false, eqb-true, eq-eqb, ne_eqb, le-leb, lt-ltb, le-ltb}
 use borrow.Rule.Slice.PartMut.{put_mid, Post-is, mid_len}

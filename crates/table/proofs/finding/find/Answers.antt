@@ -1,8 +1,7 @@
-use Prim.Native.Nat.{◌-◌}
 use mathlib.Core.Path.{refl, sym, ◌∙◌}
 use mathlib.Core.Bool.{true, false}
 use native.Mathlib.Omega.{arith}
-use Rattle.table.specs.Table.{named, find}
+use Rattle.table.specs.Table.{find}
 use Rattle.table.proofs.Records.{first_turn, first_ends}
 use Rattle.table.proofs.finding.find.Goals as goal
 

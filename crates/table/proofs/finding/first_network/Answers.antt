@@ -1,8 +1,7 @@
-use Prim.Native.Nat.{◌-◌}
 use mathlib.Core.Path.{refl, sym, ◌∙◌}
 use mathlib.Core.Bool.{true, false}
 use native.Mathlib.Omega.{arith}
-use Rattle.table.specs.Table.{network_of, first_network}
+use Rattle.table.specs.Table.{first_network}
 use Rattle.table.proofs.Records.{first_turn, first_ends}
 use Rattle.table.proofs.finding.first_network.Goals as goal
 
