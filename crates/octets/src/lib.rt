@@ -1,5 +1,6 @@
 // Bytes as values: the byte of a place, and up to six of them with their count.
 #![tactic(auto)]
+
 mod bodies;
 mod places;
 
