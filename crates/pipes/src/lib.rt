@@ -3,7 +3,7 @@
 
 ghost use Rattle.std.specs.Prelude.{◌≡◌, min, take, decimal, OnOk};
 ghost use Rattle.std.specs.Io.KnownBytes.{Appends};
-ghost use Rattle.pipes.specs.Buffers.{appended, appended_count, sent_from, next_of, complaint_text, complaint_of as complaintOf};
+ghost use Rattle.pipes.specs.Buffers.{appended, appended_count, sent_from, next_of, complaint_text, complaint_of};
 
 use itoa::Buffer;
 use std::io;
@@ -75,7 +75,7 @@ pub fn next(n: u64) -> u64
 
 // The line that tells what was refused: `line 7: 3 no # behind the interface`, say, and its end. Cut where it is longer than its room.
 pub fn complaint_of(kind: &[u8], place: &[u8], number: u8, rule: &[u8]) -> Complaint
-    ensures { result ≡ complaintOf kind.now place.now number rule.now }
+    ensures { result ≡ complaint_of kind.now place.now number rule.now }
 {
     let mut text = [0; COMPLAINT_ROOM];
     let behind_kind = append(kind, 0, &mut text);
