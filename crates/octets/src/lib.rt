@@ -1,4 +1,4 @@
-// Bytes as values: the byte of a place, and up to six of them with their count.
+// Bytes as values: the byte of a place, up to six of them with their count, and copying.
 #![tactic(auto)]
 
 mod bodies;

@@ -1,4 +1,5 @@
 use mathlib.Core.Path.{sym, ◌∙◌}
+use native.Mathlib.Omega.{arith}
 use lib.ListN.{length}
 use borrow.Author.Tests.{le-leb, lt-leb}
 use Rattle.answers.specs.Code.{part_fits, part_count, part_sent}
@@ -8,11 +9,11 @@ use Rattle.answers.proofs.answering.send_part.Goals as goal
 pub returns-then-part-gt255 : goal.returns-then-part-gt255
 unfolding part_count part_sent part_fits
 returns-then-part-gt255 c =
-    let t = lt-leb (length c.args.part.now) 255 c.if-part-gt255.true in
+    let t = lt-leb (length c.args.part.now) 255 (omega (arith, c.if-part-gt255.true)) in
     (simp t, simp t)
 
 pub send_fitting-requires : goal.send_fitting-requires
-send_fitting-requires c = ((answerable_exactly _ _ _).0 (sym c.answerable.ensures ∙ c.if-answerable.true), c.if-part-gt255.false)
+send_fitting-requires c = ((answerable_exactly _ _ _).0 (sym c.answerable.ensures ∙ c.if-answerable.true), omega (arith, c.if-part-gt255.false))
 
 pub returns-then-answerable : goal.returns-then-answerable
 returns-then-answerable c =
