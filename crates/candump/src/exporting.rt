@@ -20,8 +20,8 @@ const TEXT: usize = 16;
 // Puts two digits for each byte to the front.
 #[tactic(auto, using(crate::proofs::Stores::digits_stored, crate::proofs::Stores::digits_kept, crate::proofs::Digits::capital_at), unfolding(crate::specs::Frame::hex_of))]
 fn put_digits(digits: &[u8; 16], bytes: &[u8], places: &mut [u8])
-    requires digits_value { digits.now ≡ capitals }
-    requires bytes_in_bounds { 2 * length bytes.now ≤ length places.old }
+    requires capital_digits { digits.now ≡ capitals }
+    requires room { 2 * length bytes.now ≤ length places.old }
     ensures { places.new ≡ hex_of bytes.now ++ drop (2 * length bytes.now) places.old }
 {
     let mut i = 0;
@@ -36,8 +36,8 @@ fn put_digits(digits: &[u8; 16], bytes: &[u8], places: &mut [u8])
 // Puts the digits of an identifier and the # behind them to the front.
 #[tactic(auto, using(crate::proofs::Digits::capital_at), unfolding(crate::specs::Frame::identifier_digits))]
 fn put_identifier(digits: &[u8; 16], identifier: u16, places: &mut [u8])
-    requires digits_value { digits.now ≡ capitals }
-    requires in_bounds { 4 ≤ length places.old }
+    requires capital_digits { digits.now ≡ capitals }
+    requires room { 4 ≤ length places.old }
     ensures { places.new ≡ identifier_digits identifier ++ mark ∷ drop 4 places.old }
 {
     places[0] = digits[(identifier / 256 % 16) as usize];
@@ -49,12 +49,12 @@ fn put_identifier(digits: &[u8; 16], identifier: u16, places: &mut [u8])
 // Puts what stands behind the # to the front, of a frame with these data bytes and more behind them, and gives its length.
 #[tactic(auto, using(crate::proofs::Stores::digits_count), unfolding(crate::specs::Frame::data_text))]
 fn put_data(digits: &[u8; 16], can: Can, body: &[u8], places: &mut [u8]) -> usize
-    requires digits_value { digits.now ≡ capitals }
-    requires dlc_le_most_dlc { can.dlc ≤ most_dlc }
-    requires most_dlc_in_bounds { most_dlc ≤ length body.now }
-    requires most_dlc_in_bounds_2 { 2 * most_dlc ≤ length places.old }
-    ensures value { result ≡ length (data_text can body.now) }
-    ensures places_after { places.new ≡ data_text can body.now ++ drop (length (data_text can body.now)) places.old }
+    requires capital_digits { digits.now ≡ capitals }
+    requires dlc_allowed { can.dlc ≤ most_dlc }
+    requires data_there { most_dlc ≤ length body.now }
+    requires room { 2 * most_dlc ≤ length places.old }
+    ensures count { result ≡ length (data_text can body.now) }
+    ensures front { places.new ≡ data_text can body.now ++ drop (length (data_text can body.now)) places.old }
 {
     if can.rtr == 1 {
         places[0] = b'R';
@@ -69,12 +69,12 @@ fn put_data(digits: &[u8; 16], can: Can, body: &[u8], places: &mut [u8]) -> usiz
 // Puts the text of a frame to the front, and gives its length.
 #[tactic(auto, using(crate::proofs::Texts::text_put, crate::proofs::Texts::text_length, crate::proofs::Texts::data_most))]
 fn put_text(digits: &[u8; 16], can: Can, body: &[u8], places: &mut [u8]) -> usize
-    requires digits_value { digits.now ≡ capitals }
-    requires dlc_le_most_dlc { can.dlc ≤ most_dlc }
-    requires most_dlc_in_bounds { most_dlc ≤ length body.now }
-    requires most_dlc_in_bounds_2 { 4 + 2 * most_dlc ≤ length places.old }
-    ensures value { result ≡ length (text can body.now) }
-    ensures places_after { places.new ≡ text can body.now ++ drop (length (text can body.now)) places.old }
+    requires capital_digits { digits.now ≡ capitals }
+    requires dlc_allowed { can.dlc ≤ most_dlc }
+    requires data_there { most_dlc ≤ length body.now }
+    requires room { 4 + 2 * most_dlc ≤ length places.old }
+    ensures count { result ≡ length (text can body.now) }
+    ensures front { places.new ≡ text can body.now ++ drop (length (text can body.now)) places.old }
 {
     put_identifier(digits, can.identifier, places);
     4 + put_data(digits, can, body, &mut places[4..])

@@ -8,9 +8,6 @@ ghost use Rattle.codec.specs.Names.{frame_size};
 
 use std::io::{Read, Stderr, Stdin, Stdout};
 
-// The bytes that are read, and those that wait to be written, at most.
-const BLOCK: usize = 65536;
-
 const RECORD: usize = codec::FRAME_SIZE;
 
 // How far an export has come: the bytes that are held of a record, the records that are done, the bytes that wait to be written.
@@ -62,8 +59,8 @@ fn take_block(
     held: &mut [u8],
     out: &mut [u8],
 ) -> Progress
-    requires held_lt_frame_size { start.held < frame_size }
-    requires held_len { length held.old ≡ frame_size }
+    requires record_begun { start.held < frame_size }
+    requires held_room { length held.old ≡ frame_size }
     ensures { result.held < frame_size }
 {
     let mut p = start;
@@ -92,9 +89,9 @@ fn main(rt: HostRuntime) {
     let from = rt.stdin();
     let to = rt.stdout();
     let errors = rt.stderr();
-    let mut block = [0; BLOCK];
+    let mut block = [0; pipes::BLOCK];
     let mut held = [0; RECORD];
-    let mut out = [0; BLOCK];
+    let mut out = [0; pipes::BLOCK];
     let mut p = Progress {
         held: 0,
         records: 0,

@@ -7,9 +7,6 @@ ghost use Rattle.std.specs.Prelude.{◌≤◌, length};
 
 use std::io::{Read, Stderr, Stdin, Stdout};
 
-// The bytes that are read, and those that wait to be written, at most.
-const BLOCK: usize = 65536;
-
 // What is held of a line that is not whole yet. One byte more than the longest line that is imported tells that it is too long, so no more is held.
 const HELD: usize = candump::MOST_LINE + 1;
 
@@ -104,9 +101,9 @@ fn main(rt: HostRuntime) {
     let from = rt.stdin();
     let to = rt.stdout();
     let errors = rt.stderr();
-    let mut block = [0; BLOCK];
+    let mut block = [0; pipes::BLOCK];
     let mut held = [0; HELD];
-    let mut out = [0; BLOCK];
+    let mut out = [0; pipes::BLOCK];
     let mut p = Progress {
         held: 0,
         lines: 0,

@@ -9,6 +9,9 @@ use itoa::Buffer;
 use std::io;
 use std::io::{Stderr, Stdout, Write};
 
+// The bytes that a program reads at a time, and those that wait to be written, at most.
+pub const BLOCK: usize = 65536;
+
 // The bytes of the longest complaint.
 pub const COMPLAINT_ROOM: usize = 128;
 
