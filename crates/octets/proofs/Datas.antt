@@ -2,21 +2,21 @@
 use Prim.Native.Nat.{ℕ, zero, suc, ◌-◌, ◌<◌, ◌≤◌, min}
 use mathlib.Core.Path.{◌≡◌, refl, sym, ap, ◌∙◌}
 use mathlib.Core.Bool.{true, false, cond, ◌&&◌, and-eq-true_iff, and_assoc, true-and, and-true, and-false}
-use mathlib.Core.List.{List, [], ◌∷◌}
+use mathlib.Core.List.{List, [], ◌∷◌, ◌++◌}
 use native.Mathlib.Omega.{arith}
 use lib.ListN.{length, get_or, take, drop, replicate, length-take}
 use lib.Seq.{length-take-le, take_at, drop_at, get_or-take}
-use lib.Dec.{leb, ltb}
-use borrow.Author.Tests.{leb-true, le-leb}
+use lib.Dec.{leb, ltb, eqb}
+use borrow.Author.Tests.{leb-true, le-leb, eqb-true, eq-eqb}
 use Rattle.laws.specs.Bytes.{zeros, padded}
 use Rattle.laws.proofs.Bytes.{are_zeros, get_d_past, padded_take, byte_taken, zeros_at}
 use Rattle.laws.proofs.Tests.{split}
 use Rattle.octets.specs.declared.Data.{Data}
-use Rattle.octets.specs.Data.{most_data, data_of, places_of, bytes_of, tidy}
+use Rattle.octets.specs.Data.{most_data, six, data_of, places_of, bytes_of, tidy}
 
 -- at most six bytes, and the zeros behind them
 six_padded : (l : List ℕ) → length l ≤ most_data
-    → get_or l 0 0 ∷ get_or l 1 0 ∷ get_or l 2 0 ∷ get_or l 3 0 ∷ get_or l 4 0 ∷ get_or l 5 0 ∷ [] ≡ padded most_data l
+    → six l ≡ padded most_data l
 six_padded [] h = refl
 six_padded (a ∷ []) h = refl
 six_padded (a ∷ b ∷ []) h = refl
@@ -39,16 +39,39 @@ module _ (l : List ℕ) (h : length l ≤ most_data) where
       let z : zeros (drop (length l) (padded most_data l)) ≡ true = rw (drop_at l (replicate (most_data - length l) 0) (length l) refl) (are_zeros (most_data - length l)) in
       simp (le-leb (length l) most k, six_padded l h, z)
 
+-- six places are those of six elements
+pub six_whole : (l : List ℕ) → length l ≡ most_data → six l ≡ l
+six_whole [] h = absurd (omega (arith, h))
+six_whole (a ∷ []) h = absurd (omega (arith, h))
+six_whole (a ∷ b ∷ []) h = absurd (omega (arith, h))
+six_whole (a ∷ b ∷ c ∷ []) h = absurd (omega (arith, h))
+six_whole (a ∷ b ∷ c ∷ d ∷ []) h = absurd (omega (arith, h))
+six_whole (a ∷ b ∷ c ∷ d ∷ e ∷ []) h = absurd (omega (arith, h))
+six_whole (a ∷ b ∷ c ∷ d ∷ e ∷ f ∷ []) h = refl
+six_whole (a ∷ b ∷ c ∷ d ∷ e ∷ f ∷ g ∷ l) h = absurd (omega (arith, h))
+
+-- tidy data is at most so long, has six places, and 0 in those that it does not use
+pub record Tidy (most : ℕ) (d : Data) : Type 0 where
+  pub short : d.len ≤ most
+  pub places : length d.places ≡ most_data
+  pub rest : zeros (drop d.len (places_of d)) ≡ true
+
+pub tidy_in_words : (most : ℕ) (d : Data) → tidy most d ≡ true → Tidy most d
+unfolding tidy
+tidy_in_words most d t =
+    let a = (and-eq-true_iff _ (zeros (drop d.len (places_of d)))).0 t in
+    let b = (and-eq-true_iff (leb d.len most) _).0 a.0 in
+    record { short = leb-true d.len most b.0; places = eqb-true (length d.places) most_data b.1; rest = a.1 }
+
 -- tidy data is at most so long, and is also tidy where there is more room
 pub tidy_most : (most : ℕ) (d : Data) → tidy most d ≡ true → d.len ≤ most
-unfolding tidy
-tidy_most most d t = leb-true d.len most ((and-eq-true_iff (leb d.len most) (zeros (drop d.len (places_of d)))).0 t).0
+tidy_most most d t = (tidy_in_words most d t).short
 
 pub tidy_more : (most more : ℕ) (d : Data) → most ≤ more → tidy most d ≡ true → tidy more d ≡ true
 unfolding tidy
 tidy_more most more d h t =
-    simp (le-leb d.len more (omega (arith, tidy_most most d t)))
-    ((and-eq-true_iff (leb d.len most) (zeros (drop d.len (places_of d)))).0 t).1
+    let w = tidy_in_words most d t in
+    simp (le-leb d.len more (omega (arith, w.short)), eq-eqb (length d.places) most_data w.places) w.rest
 
 -- the bytes are as many as their count says, where there are places for them
 pub bytes_counted : (d : Data) → d.len ≤ most_data → length (bytes_of d) ≡ d.len
@@ -65,10 +88,10 @@ module _ (d : Data) (t : tidy most_data d ≡ true) where
   bytes_length = bytes_counted d (tidy_most most_data d t)
 
   pub places_padded : padded most_data (bytes_of d) ≡ places_of d
-  unfolding bytes_of tidy
+  unfolding bytes_of
   places_padded =
-      padded_take d.len most_data (places_of d) (tidy_most most_data d t) (omega arith)
-      ((and-eq-true_iff (leb d.len most_data) (zeros (drop d.len (places_of d)))).0 t).1
+      let w = tidy_in_words most_data d t in
+      padded_take d.len most_data (places_of d) w.short (omega arith) w.rest
 
   -- a byte of the list is the byte of its place
   pub byte_place : (i : ℕ) → get_or (bytes_of d) i 0 ≡ get_or (places_of d) i 0
@@ -77,19 +100,17 @@ module _ (d : Data) (t : tidy most_data d ≡ true) where
   -- tidy data is made of the bytes that it holds
   pub data_bytes : data_of (bytes_of d) ≡ d
   unfolding data_of
-  data_bytes = simp (bytes_length, byte_place 0, byte_place 1, byte_place 2, byte_place 3, byte_place 4, byte_place 5)
+  data_bytes =
+      simp (bytes_length, byte_place 0, byte_place 1, byte_place 2, byte_place 3, byte_place 4, byte_place 5)
+      (ap (λ (l : List ℕ). record { len = d.len; places = l }) (six_whole d.places (tidy_in_words most_data d t).places))
 
 -- the first so many bytes of a list, place by place
 pub data_taken : (n : ℕ) (l : List ℕ) → n ≤ length l
     → data_of (take n l)
     ≡ record {
       len = n;
-      b0 = cond (ltb 0 n) (get_or l 0 0) 0;
-      b1 = cond (ltb 1 n) (get_or l 1 0) 0;
-      b2 = cond (ltb 2 n) (get_or l 2 0) 0;
-      b3 = cond (ltb 3 n) (get_or l 3 0) 0;
-      b4 = cond (ltb 4 n) (get_or l 4 0) 0;
-      b5 = cond (ltb 5 n) (get_or l 5 0) 0;
+      places = cond (ltb 0 n) (get_or l 0 0) 0 ∷ cond (ltb 1 n) (get_or l 1 0) 0 ∷ cond (ltb 2 n) (get_or l 2 0) 0
+          ∷ cond (ltb 3 n) (get_or l 3 0) 0 ∷ cond (ltb 4 n) (get_or l 4 0) 0 ∷ cond (ltb 5 n) (get_or l 5 0) 0 ∷ [];
     }
 unfolding data_of
 data_taken n l h =
@@ -98,38 +119,27 @@ data_taken n l h =
 -- the front of a list, place by place
 pub data_front : (l : List ℕ)
     → data_of (take most_data l)
-    ≡ record { len = min most_data (length l); b0 = get_or l 0 0; b1 = get_or l 1 0; b2 = get_or l 2 0; b3 = get_or l 3 0; b4 = get_or l 4 0; b5 = get_or l 5 0 }
+    ≡ record { len = min most_data (length l); places = six l }
 unfolding data_of
 data_front l =
     simp (length-take most_data l, get_or-take most_data l 0 0 (omega arith), get_or-take most_data l 1 0 (omega arith), get_or-take most_data l 2 0 (omega arith), get_or-take most_data l 3 0 (omega arith), get_or-take most_data l 4 0 (omega arith), get_or-take most_data l 5 0 (omega arith))
 
--- ---- the places that the bytes leave unused
+-- six zeros with the front of a list put over them
+pub six_copied : (l : List ℕ) → take most_data l ++ drop (length l) (0 ∷ 0 ∷ 0 ∷ 0 ∷ 0 ∷ 0 ∷ []) ≡ six l
+six_copied [] = refl
+six_copied (a ∷ []) = refl
+six_copied (a ∷ b ∷ []) = refl
+six_copied (a ∷ b ∷ c ∷ []) = refl
+six_copied (a ∷ b ∷ c ∷ d ∷ []) = refl
+six_copied (a ∷ b ∷ c ∷ d ∷ e ∷ []) = refl
+six_copied (a ∷ b ∷ c ∷ d ∷ e ∷ f ∷ l) = ap (λ (m : List ℕ). a ∷ b ∷ c ∷ d ∷ e ∷ f ∷ m) (drop_none (length l))
+  where
+    drop_none : (n : ℕ) → take 0 l ++ drop n [] ≡ []
+    drop_none zero = refl
+    drop_none (suc n) = refl
 
--- by the place at which they begin, and by one of them that is not 0
-pub rest_at : (k n : ℕ) (l : List ℕ) → n ≡ k → zeros (drop k l) ≡ true → zeros (drop n l) ≡ true
-rest_at k n l e z = rw e z
-
-pub rest_not : (k n : ℕ) (l : List ℕ) → n ≤ k → (get_or l k 0 ≡ 0 → ⊥) → zeros (drop n l) ≡ false
-rest_not k n l h f = split (zeros (drop n l)) (λ t. absurd (f (zeros_at n l k h t))) (λ e. e)
-
--- by threes: those that begin behind the first three, and those that begin among them
-pub rest_behind : (n a b c : ℕ) (l : List ℕ) → 3 ≤ n → drop n (a ∷ b ∷ c ∷ l) ≡ drop (n - 3) l
-rest_behind zero a b c l h = absurd (omega arith)
-rest_behind (suc zero) a b c l h = absurd (omega arith)
-rest_behind (suc (suc zero)) a b c l h = absurd (omega arith)
-rest_behind (suc (suc (suc n))) a b c l h =
-    let q : suc (suc (suc n)) - 3 ≡ n = omega arith in
-    rw q
-
-rest_among : (n a b c : ℕ) (l : List ℕ) → n ≤ 3 → zeros (drop n (a ∷ b ∷ c ∷ l)) ≡ zeros (drop n (a ∷ b ∷ c ∷ [])) && zeros l
-rest_among zero a b c l h = simp (and_assoc, true-and)
-rest_among (suc zero) a b c l h = simp (and_assoc, true-and)
-rest_among (suc (suc zero)) a b c l h = simp (and_assoc, true-and)
-rest_among (suc (suc (suc zero))) a b c l h = refl
-rest_among (suc (suc (suc (suc n)))) a b c l h = absurd (omega arith)
-
-pub rest_zero : (n a b c : ℕ) (l : List ℕ) → n < 3 → zeros l ≡ true → zeros (drop n (a ∷ b ∷ c ∷ l)) ≡ zeros (drop n (a ∷ b ∷ c ∷ []))
-rest_zero n a b c l h z = rest_among n a b c l (omega arith) ∙ rw z (and-true (zeros (drop n (a ∷ b ∷ c ∷ []))))
-
-pub rest_not_zero : (n a b c : ℕ) (l : List ℕ) → n < 3 → zeros l ≡ false → zeros (drop n (a ∷ b ∷ c ∷ l)) ≡ false
-rest_not_zero n a b c l h z = rest_among n a b c l (omega arith) ∙ rw z (and-false (zeros (drop n (a ∷ b ∷ c ∷ []))))
+-- tidy data as the code tests it: six places are all that there are
+pub tidy_tested : (most : ℕ) (d : Data) → length d.places ≡ most_data
+    → tidy most d ≡ (leb d.len most && zeros (drop d.len d.places))
+unfolding tidy
+tidy_tested most d h = simp (eq-eqb (length d.places) most_data h, six_whole d.places h, and-true)

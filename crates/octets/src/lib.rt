@@ -7,7 +7,7 @@ mod places;
 
 pub use bodies::{data_from, is_tidy, no_data, places_of};
 pub use copying::copy;
-pub use places::byte_at;
+pub use places::{byte_at, zeros};
 
 // The most bytes that data has places for.
 pub const MOST: u8 = 6;
@@ -16,10 +16,5 @@ pub const MOST: u8 = 6;
 #[derive(Clone, Copy)]
 pub struct Data {
     pub len: u8,
-    pub b0: u8,
-    pub b1: u8,
-    pub b2: u8,
-    pub b3: u8,
-    pub b4: u8,
-    pub b5: u8,
+    pub places: [u8; 6],
 }
