@@ -97,12 +97,8 @@ rest_cut bs n h =
 pub full_at : (bs : List ℕ) (n : ℕ) → fragment_bytes * n + fragment_bytes ≤ length bs
     → record {
       len = fragment_bytes;
-      b0 = get_or bs (fragment_bytes * n) 0;
-      b1 = get_or bs (fragment_bytes * n + 1) 0;
-      b2 = get_or bs (fragment_bytes * n + 2) 0;
-      b3 = get_or bs (fragment_bytes * n + 3) 0;
-      b4 = 0;
-      b5 = 0;
+      places = get_or bs (fragment_bytes * n) 0 ∷ get_or bs (fragment_bytes * n + 1) 0 ∷ get_or bs (fragment_bytes * n + 2) 0
+          ∷ get_or bs (fragment_bytes * n + 3) 0 ∷ 0 ∷ 0 ∷ [];
     }
     ≡ data_of (fragment_part bs n)
 full_at bs n h =

@@ -83,12 +83,7 @@ fn reason(number: u8) -> Data
 {
     Data {
         len: 1,
-        b0: code_of(number as u32),
-        b1: 0,
-        b2: 0,
-        b3: 0,
-        b4: 0,
-        b5: 0,
+        places: [code_of(number as u32), 0, 0, 0, 0, 0],
     }
 }
 
@@ -149,12 +144,14 @@ fn send_full(about: Subject, part: &[u8], n: usize, out: &mut [u8])
     let start = FRAGMENT_BYTES * n;
     let body = Data {
         len: guest::FRAGMENT_BYTES,
-        b0: part[start],
-        b1: part[start + 1],
-        b2: part[start + 2],
-        b3: part[start + 3],
-        b4: 0,
-        b5: 0,
+        places: [
+            part[start],
+            part[start + 1],
+            part[start + 2],
+            part[start + 3],
+            0,
+            0,
+        ],
     };
     send_piece(about, n, part.len(), body, out);
 }
