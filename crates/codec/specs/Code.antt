@@ -1,6 +1,7 @@
 -- What the code offers besides reading and writing whole messages, for every input. Who sends frames that it knows to fit puts them without a test:
 -- each field is cut to the bits that it has in the record; `put_is_written` and `put_short_is_written` say that the cut does not alter what fits.
 use Rattle.std.specs.Prelude.{ℕ, ◌+◌, ◌-◌, ◌%◌, cond, ◌&&◌, List, [], ◌∷◌, ◌++◌, length, eqb, leb}
+use Rattle.std.proofs.Math.Path.{refl}
 use Rattle.laws.specs.Bytes.{byte_at, padded}
 use Rattle.octets.specs.declared.Data.{Data}
 use Rattle.octets.specs.Data.{data_of, places_of}
@@ -23,6 +24,7 @@ unfoldable pub prefixed : ℕ → ℕ → Data → Data
 prefixed number total d = record {
   len = d.len % 8 + 2;
   places = number ∷ total ∷ byte_at d.places 0 ∷ byte_at d.places 1 ∷ byte_at d.places 2 ∷ byte_at d.places 3 ∷ [];
+  six = refl;
 }
 
 -- and the way back: what stands behind number and total
@@ -30,6 +32,7 @@ unfoldable pub unprefixed : Data → Data
 unprefixed p = record {
   len = p.len - 2;
   places = byte_at p.places 2 ∷ byte_at p.places 3 ∷ byte_at p.places 4 ∷ byte_at p.places 5 ∷ 0 ∷ 0 ∷ [];
+  six = refl;
 }
 
 -- a subject, each field cut to its bits

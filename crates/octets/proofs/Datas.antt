@@ -1,5 +1,7 @@
 -- Data and the bytes that it holds: each is read off the other.
 use Prim.Native.Nat.{ℕ, zero, suc, ◌-◌, ◌<◌, ◌≤◌, min}
+use Rattle.std.proofs.Math.Path.{PathP, to_path_p}
+use Rattle.std.proofs.Math.Nat.{ℕ_set}
 use mathlib.Core.Path.{◌≡◌, refl, sym, ap, ◌∙◌}
 use mathlib.Core.Bool.{true, false, cond, ◌&&◌, and-eq-true_iff, and_assoc, true-and, and-true, and-false}
 use mathlib.Core.List.{List, [], ◌∷◌, ◌++◌}
@@ -7,7 +9,7 @@ use native.Mathlib.Omega.{arith}
 use lib.ListN.{length, get_or, take, drop, replicate, length-take}
 use lib.Seq.{length-take-le, take_at, drop_at, get_or-take}
 use lib.Dec.{leb, ltb, eqb}
-use borrow.Author.Tests.{leb-true, le-leb, eqb-true, eq-eqb}
+use borrow.Author.Tests.{leb-true, le-leb}
 use Rattle.laws.specs.Bytes.{zeros, padded}
 use Rattle.laws.proofs.Bytes.{are_zeros, get_d_past, padded_take, byte_taken, zeros_at}
 use Rattle.laws.proofs.Tests.{split}
@@ -50,28 +52,23 @@ six_whole (a ∷ b ∷ c ∷ d ∷ e ∷ []) h = absurd (omega (arith, h))
 six_whole (a ∷ b ∷ c ∷ d ∷ e ∷ f ∷ []) h = refl
 six_whole (a ∷ b ∷ c ∷ d ∷ e ∷ f ∷ g ∷ l) h = absurd (omega (arith, h))
 
--- tidy data is at most so long, has six places, and 0 in those that it does not use
-pub record Tidy (most : ℕ) (d : Data) : Type 0 where
-  pub short : d.len ≤ most
-  pub places : length d.places ≡ most_data
-  pub rest : zeros (drop d.len (places_of d)) ≡ true
-
-pub tidy_in_words : (most : ℕ) (d : Data) → tidy most d ≡ true → Tidy most d
-unfolding tidy
-tidy_in_words most d t =
-    let a = (and-eq-true_iff _ (zeros (drop d.len (places_of d)))).0 t in
-    let b = (and-eq-true_iff (leb d.len most) _).0 a.0 in
-    record { short = leb-true d.len most b.0; places = eqb-true (length d.places) most_data b.1; rest = a.1 }
+-- data is known by its length and its places
+pub same_data : (d e : Data) → d.len ≡ e.len → d.places ≡ e.places → d ≡ e
+same_data d e p q = λ i. record { len = p i; places = q i; six = same_six i }
+  where
+    same_six : PathP (λ i. length (q i) ≡ 6) d.six e.six
+    same_six = to_path_p (λ i. length (q i) ≡ 6) (ℕ_set (length e.places) 6 (coe 0 1 (k. length (q k) ≡ 6) d.six) e.six)
 
 -- tidy data is at most so long, and is also tidy where there is more room
 pub tidy_most : (most : ℕ) (d : Data) → tidy most d ≡ true → d.len ≤ most
-tidy_most most d t = (tidy_in_words most d t).short
+unfolding tidy
+tidy_most most d t = leb-true d.len most ((and-eq-true_iff (leb d.len most) (zeros (drop d.len (places_of d)))).0 t).0
 
 pub tidy_more : (most more : ℕ) (d : Data) → most ≤ more → tidy most d ≡ true → tidy more d ≡ true
 unfolding tidy
 tidy_more most more d h t =
-    let w = tidy_in_words most d t in
-    simp (le-leb d.len more (omega (arith, w.short)), eq-eqb (length d.places) most_data w.places) w.rest
+    simp (le-leb d.len more (omega (arith, tidy_most most d t)))
+    ((and-eq-true_iff (leb d.len most) (zeros (drop d.len (places_of d)))).0 t).1
 
 -- the bytes are as many as their count says, where there are places for them
 pub bytes_counted : (d : Data) → d.len ≤ most_data → length (bytes_of d) ≡ d.len
@@ -88,10 +85,10 @@ module _ (d : Data) (t : tidy most_data d ≡ true) where
   bytes_length = bytes_counted d (tidy_most most_data d t)
 
   pub places_padded : padded most_data (bytes_of d) ≡ places_of d
-  unfolding bytes_of
+  unfolding bytes_of tidy
   places_padded =
-      let w = tidy_in_words most_data d t in
-      padded_take d.len most_data (places_of d) w.short (omega arith) w.rest
+      padded_take d.len most_data (places_of d) (tidy_most most_data d t) (omega arith)
+      ((and-eq-true_iff (leb d.len most_data) (zeros (drop d.len (places_of d)))).0 t).1
 
   -- a byte of the list is the byte of its place
   pub byte_place : (i : ℕ) → get_or (bytes_of d) i 0 ≡ get_or (places_of d) i 0
@@ -101,28 +98,22 @@ module _ (d : Data) (t : tidy most_data d ≡ true) where
   pub data_bytes : data_of (bytes_of d) ≡ d
   unfolding data_of
   data_bytes =
-      simp (bytes_length, byte_place 0, byte_place 1, byte_place 2, byte_place 3, byte_place 4, byte_place 5)
-      (ap (λ (l : List ℕ). record { len = d.len; places = l }) (six_whole d.places (tidy_in_words most_data d t).places))
+      same_data (data_of (bytes_of d)) d bytes_length
+      (simp (byte_place 0, byte_place 1, byte_place 2, byte_place 3, byte_place 4, byte_place 5) (six_whole d.places d.six))
 
--- the first so many bytes of a list, place by place
-pub data_taken : (n : ℕ) (l : List ℕ) → n ≤ length l
-    → data_of (take n l)
-    ≡ record {
-      len = n;
-      places = cond (ltb 0 n) (get_or l 0 0) 0 ∷ cond (ltb 1 n) (get_or l 1 0) 0 ∷ cond (ltb 2 n) (get_or l 2 0) 0
-          ∷ cond (ltb 3 n) (get_or l 3 0) 0 ∷ cond (ltb 4 n) (get_or l 4 0) 0 ∷ cond (ltb 5 n) (get_or l 5 0) 0 ∷ [];
-    }
+-- the first so many bytes of a list, and the front of a list, place by place
+pub taken_places : (n : ℕ) (l : List ℕ)
+    → (data_of (take n l)).places
+    ≡ cond (ltb 0 n) (get_or l 0 0) 0 ∷ cond (ltb 1 n) (get_or l 1 0) 0 ∷ cond (ltb 2 n) (get_or l 2 0) 0
+    ∷ cond (ltb 3 n) (get_or l 3 0) 0 ∷ cond (ltb 4 n) (get_or l 4 0) 0 ∷ cond (ltb 5 n) (get_or l 5 0) 0 ∷ []
 unfolding data_of
-data_taken n l h =
-    simp (length-take-le n l h, byte_taken n l 0, byte_taken n l 1, byte_taken n l 2, byte_taken n l 3, byte_taken n l 4, byte_taken n l 5)
+taken_places n l = simp (byte_taken n l 0, byte_taken n l 1, byte_taken n l 2, byte_taken n l 3, byte_taken n l 4, byte_taken n l 5)
 
--- the front of a list, place by place
-pub data_front : (l : List ℕ)
-    → data_of (take most_data l)
-    ≡ record { len = min most_data (length l); places = six l }
+pub data_front : (l : List ℕ) (d : Data) → d.len ≡ min most_data (length l) → d.places ≡ six l → d ≡ data_of (take most_data l)
 unfolding data_of
-data_front l =
-    simp (length-take most_data l, get_or-take most_data l 0 0 (omega arith), get_or-take most_data l 1 0 (omega arith), get_or-take most_data l 2 0 (omega arith), get_or-take most_data l 3 0 (omega arith), get_or-take most_data l 4 0 (omega arith), get_or-take most_data l 5 0 (omega arith))
+data_front l d n p =
+    same_data d (data_of (take most_data l)) (n ∙ sym (length-take most_data l))
+    (p ∙ sym (simp (get_or-take most_data l 0 0 (omega arith), get_or-take most_data l 1 0 (omega arith), get_or-take most_data l 2 0 (omega arith), get_or-take most_data l 3 0 (omega arith), get_or-take most_data l 4 0 (omega arith), get_or-take most_data l 5 0 (omega arith))))
 
 -- six zeros with the front of a list put over them
 pub six_copied : (l : List ℕ) → take most_data l ++ drop (length l) (0 ∷ 0 ∷ 0 ∷ 0 ∷ 0 ∷ 0 ∷ []) ≡ six l
@@ -139,7 +130,6 @@ six_copied (a ∷ b ∷ c ∷ d ∷ e ∷ f ∷ l) = ap (λ (m : List ℕ). a �
     drop_none (suc n) = refl
 
 -- tidy data as the code tests it: six places are all that there are
-pub tidy_tested : (most : ℕ) (d : Data) → length d.places ≡ most_data
-    → tidy most d ≡ (leb d.len most && zeros (drop d.len d.places))
+pub tidy_tested : (most : ℕ) (d : Data) → tidy most d ≡ (leb d.len most && zeros (drop d.len d.places))
 unfolding tidy
-tidy_tested most d h = simp (eq-eqb (length d.places) most_data h, six_whole d.places h, and-true)
+tidy_tested most d = rw (six_whole d.places d.six) refl

@@ -1,5 +1,6 @@
 -- Data: up to six bytes as a value.
-use Rattle.std.specs.Prelude.{ℕ, Bool, ◌&&◌, List, [], ◌∷◌, length, take, drop, leb, eqb}
+use Rattle.std.specs.Prelude.{ℕ, Bool, ◌&&◌, List, [], ◌∷◌, length, take, drop, leb}
+use Rattle.std.proofs.Math.Path.{refl}
 use Rattle.laws.specs.Bytes.{byte_at, zeros}
 use Rattle.octets.specs.declared.Data.{Data}
 
@@ -13,7 +14,7 @@ six l = byte_at l 0 ∷ byte_at l 1 ∷ byte_at l 2 ∷ byte_at l 3 ∷ byte_at 
 
 -- up to six bytes; the places that they do not use hold 0
 unfoldable pub data_of : List ℕ → Data
-data_of l = record { len = length l; places = six l }
+data_of l = record { len = length l; places = six l; six = refl }
 
 -- the six places of data, and the bytes among them that count
 abbrev pub places_of : Data → List ℕ
@@ -22,6 +23,6 @@ places_of d = six d.places
 unfoldable pub bytes_of : Data → List ℕ
 bytes_of d = take d.len (places_of d)
 
--- at most so many bytes in the six places, and 0 in each place that they do not use
+-- at most so many bytes, and 0 in each place that they do not use
 unfoldable pub tidy : ℕ → Data → Bool
-tidy most d = leb d.len most && eqb (length d.places) most_data && zeros (drop d.len (places_of d))
+tidy most d = leb d.len most && zeros (drop d.len (places_of d))

@@ -23,7 +23,6 @@ pub fn no_data() -> Data
 }
 
 // The bytes of a slice, of which at most six have room.
-#[tactic(auto, using(crate::proofs::Datas::data_front, crate::proofs::Datas::six_copied))]
 pub fn data_from(bytes: &[u8]) -> Data
     ensures { result ≡ data_of (take most_data bytes.now) }
 {

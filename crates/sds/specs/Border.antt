@@ -1,5 +1,6 @@
 -- What C sees: a message as 16 bytes, and what each entry point answers.
 use Rattle.std.specs.Prelude.{ℕ, ◌+◌, ◌*◌, Bool, cond, not, ◌&&◌, ◌||◌, List, [], ◌∷◌, length, drop, eqb, ltb}
+use Rattle.std.proofs.Math.Path.{refl}
 use Rattle.laws.specs.Bytes.{byte_at, zeros}
 use Rattle.laws.specs.Checks.{Check, first_of}
 use Rattle.octets.specs.declared.Data.{Data}
@@ -69,6 +70,7 @@ unfoldable pub data_at : List ℕ → Data
 data_at l = record {
   len = byte_at l 9;
   places = byte_at l 10 ∷ byte_at l 11 ∷ byte_at l 12 ∷ byte_at l 13 ∷ byte_at l 14 ∷ byte_at l 15 ∷ [];
+  six = refl;
 }
 
 -- the message of 16 bytes, by their kind; what they hold besides is looked at by `bordered`
