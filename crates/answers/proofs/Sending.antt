@@ -93,6 +93,14 @@ rest_cut bs n h =
     rw (take_all (length bs - fragment_bytes * n) behind (omega arith))
     (take_all most_data behind (omega arith) ∙ sym (take_all fragment_bytes behind (omega arith)))
 
+-- and a full fragment of it
+pub full_cut : (bs : List ℕ) (n : ℕ)
+    → take most_data (take (fragment_bytes * n + fragment_bytes - fragment_bytes * n) (drop (fragment_bytes * n) bs)) ≡ fragment_part bs n
+full_cut bs n =
+    let behind = drop (fragment_bytes * n) bs in
+    let k : fragment_bytes * n + fragment_bytes - fragment_bytes * n ≡ fragment_bytes = omega arith in
+    rw k (take_all most_data (take fragment_bytes behind) (simp length-take (omega arith)))
+
 -- ---- what is put is what 01 says, of what fits
 
 pub answerable_exactly : (own : ℕ) (h : Header) (out : ℕ) → (answerable own h out ≡ true) ↔ Answerable own h out

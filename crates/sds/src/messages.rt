@@ -93,6 +93,7 @@ fn subject_at(message: &[u8]) -> Subject
     }
 }
 
+#[tactic(auto, unfolding(crate::specs::Border::data_at))]
 fn data_at(message: &[u8]) -> Data
     ensures { result ≡ data_at message.now }
 {
