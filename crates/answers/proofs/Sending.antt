@@ -14,7 +14,7 @@ use Rattle.laws.specs.Put.{put}
 use Rattle.laws.proofs.Put.{put_nothing, put_front, part_back}
 use Rattle.octets.specs.declared.Data.{Data}
 use Rattle.octets.specs.Data.{most_data, data_of, tidy}
-use Rattle.octets.proofs.Datas.{data_taken, tidy_data}
+use Rattle.octets.proofs.Datas.{tidy_data}
 use Rattle.codec.specs.declared.Header.{Header}
 use Rattle.codec.specs.declared.Message.TheVariants.{Short, Plain}
 use Rattle.codec.specs.declared.Subject.{Subject}
@@ -93,23 +93,13 @@ rest_cut bs n h =
     rw (take_all (length bs - fragment_bytes * n) behind (omega arith))
     (take_all most_data behind (omega arith) ∙ sym (take_all fragment_bytes behind (omega arith)))
 
--- the bytes of a full fragment, place by place
-pub full_at : (bs : List ℕ) (n : ℕ) → fragment_bytes * n + fragment_bytes ≤ length bs
-    → record {
-      len = fragment_bytes;
-      b0 = get_or bs (fragment_bytes * n) 0;
-      b1 = get_or bs (fragment_bytes * n + 1) 0;
-      b2 = get_or bs (fragment_bytes * n + 2) 0;
-      b3 = get_or bs (fragment_bytes * n + 3) 0;
-      b4 = 0;
-      b5 = 0;
-    }
-    ≡ data_of (fragment_part bs n)
-full_at bs n h =
-    let start = fragment_bytes * n in
-    let k : fragment_bytes ≤ length (drop start bs) = simp length-drop (omega arith) in
-    let z : start + 0 ≡ start = omega arith in
-    sym (data_taken fragment_bytes (drop start bs) k ∙ simp (get_or-drop start bs, z))
+-- and a full fragment of it
+pub full_cut : (bs : List ℕ) (n : ℕ)
+    → take most_data (take (fragment_bytes * n + fragment_bytes - fragment_bytes * n) (drop (fragment_bytes * n) bs)) ≡ fragment_part bs n
+full_cut bs n =
+    let behind = drop (fragment_bytes * n) bs in
+    let k : fragment_bytes * n + fragment_bytes - fragment_bytes * n ≡ fragment_bytes = omega arith in
+    rw k (take_all most_data (take fragment_bytes behind) (simp length-take (omega arith)))
 
 -- ---- what is put is what 01 says, of what fits
 

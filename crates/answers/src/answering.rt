@@ -81,15 +81,7 @@ pub fn code_of(number: u32) -> u8
 fn reason(number: u8) -> Data
     ensures { result ≡ data_of (code_of number ∷ []) }
 {
-    Data {
-        len: 1,
-        b0: code_of(number as u32),
-        b1: 0,
-        b2: 0,
-        b3: 0,
-        b4: 0,
-        b5: 0,
-    }
+    octets::data_from(&[code_of(number as u32)])
 }
 
 // "Refusals 7 to 14 put one frame: Error, flag clear" (13 is gone: 02, 2026-05), with "DLC 3 and one data byte" (02, 2026-06).
@@ -147,15 +139,7 @@ fn send_full(about: Subject, part: &[u8], n: usize, out: &mut [u8])
     ensures { out.new ≡ put out.old (n * frame_size) (fragment_frame about part.now n) }
 {
     let start = FRAGMENT_BYTES * n;
-    let body = Data {
-        len: guest::FRAGMENT_BYTES,
-        b0: part[start],
-        b1: part[start + 1],
-        b2: part[start + 2],
-        b3: part[start + 3],
-        b4: 0,
-        b5: 0,
-    };
+    let body = octets::data_from(&part[start..start + FRAGMENT_BYTES]);
     send_piece(about, n, part.len(), body, out);
 }
 

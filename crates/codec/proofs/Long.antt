@@ -141,7 +141,7 @@ module _ (r : List ℕ) (e : first_of (read_checks r) ≡ 0) (z : (header_of r).
   payload_plain f = message_plain r z f ∙ rw payload_data_lem
 
   pub payload_fragment : (header_of r).flag ≡ 1
-      → message_of r ≡ Fragment (subject_of (header_of r)) (payload_data r).b0 (payload_data r).b1 (unprefixed (payload_data r))
+      → message_of r ≡ Fragment (subject_of (header_of r)) (byte_at (payload_data r).places 0) (byte_at (payload_data r).places 1) (unprefixed (payload_data r))
   payload_fragment f =
       let w = payload_read r e z in
       message_fragment r z f

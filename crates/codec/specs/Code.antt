@@ -1,7 +1,8 @@
 -- What the code offers besides reading and writing whole messages, for every input. Who sends frames that it knows to fit puts them without a test:
 -- each field is cut to the bits that it has in the record; `put_is_written` and `put_short_is_written` say that the cut does not alter what fits.
-use Rattle.std.specs.Prelude.{ℕ, ◌+◌, ◌-◌, ◌%◌, cond, ◌&&◌, List, [], ◌++◌, length, eqb, leb}
-use Rattle.laws.specs.Bytes.{padded}
+use Rattle.std.specs.Prelude.{ℕ, ◌+◌, ◌-◌, ◌%◌, cond, ◌&&◌, List, [], ◌∷◌, ◌++◌, length, eqb, leb}
+use Rattle.std.proofs.Math.Path.{refl}
+use Rattle.laws.specs.Bytes.{byte_at, padded}
 use Rattle.octets.specs.declared.Data.{Data}
 use Rattle.octets.specs.Data.{data_of, places_of}
 use Rattle.codec.specs.declared.Subject.{Subject}
@@ -22,17 +23,17 @@ payload_in dlc r = cond (eqb (length r) frame_size && leb dlc most_dlc) (payload
 unfoldable pub prefixed : ℕ → ℕ → Data → Data
 prefixed number total d = record {
   len = d.len % 8 + 2;
-  b0 = number;
-  b1 = total;
-  b2 = d.b0;
-  b3 = d.b1;
-  b4 = d.b2;
-  b5 = d.b3;
+  places = number ∷ total ∷ byte_at d.places 0 ∷ byte_at d.places 1 ∷ byte_at d.places 2 ∷ byte_at d.places 3 ∷ [];
+  six = refl;
 }
 
 -- and the way back: what stands behind number and total
 unfoldable pub unprefixed : Data → Data
-unprefixed p = record { len = p.len - 2; b0 = p.b2; b1 = p.b3; b2 = p.b4; b3 = p.b5; b4 = 0; b5 = 0 }
+unprefixed p = record {
+  len = p.len - 2;
+  places = byte_at p.places 2 ∷ byte_at p.places 3 ∷ byte_at p.places 4 ∷ byte_at p.places 5 ∷ 0 ∷ 0 ∷ [];
+  six = refl;
+}
 
 -- a subject, each field cut to its bits
 abbrev pub cut_of : Subject → Subject

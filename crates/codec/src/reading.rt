@@ -85,18 +85,14 @@ pub fn payload_of(frame: &[u8]) -> Data
 }
 
 // What stands behind a fragment's number and total: the way back from `prefixed`.
+#[tactic(auto, unfolding(crate::specs::Code::unprefixed))]
 pub fn unprefixed(p: Data) -> Data
     ensures { result ≡ unprefixed p }
 {
-    let len = if p.len < 2 { 0 } else { p.len - 2 };
+    let [_, _, b2, b3, b4, b5] = p.places;
     Data {
-        len,
-        b0: p.b2,
-        b1: p.b3,
-        b2: p.b4,
-        b3: p.b5,
-        b4: 0,
-        b5: 0,
+        len: p.len.saturating_sub(2),
+        places: [b2, b3, b4, b5, 0, 0],
     }
 }
 
@@ -113,8 +109,8 @@ fn long_of(about: Subject, flag: u8, payload: Data) -> Message
     }
     Message::Fragment {
         about,
-        number: payload.b0,
-        total: payload.b1,
+        number: payload.places[0],
+        total: payload.places[1],
         body: unprefixed(payload),
     }
 }

@@ -5,7 +5,8 @@ ghost use Rattle.codec.specs.Writing.{subject_fits, short_fits, write_number, wr
 ghost use Rattle.codec.specs.Code.{prefixed, put_ten, put_long, put_short};
 
 use crate::{
-    FRAME_SIZE, LOWEST_LONG, MOST_ADDRESS, MOST_FRAGMENT_DATA, Message, Subject, WriteError,
+    FRAME_SIZE, LOWEST_LONG, MOST_ADDRESS, MOST_FRAGMENT_DATA, Message, PAYLOAD_PLACE, Subject,
+    WriteError,
 };
 use octets::{Data, is_tidy, no_data};
 
@@ -58,17 +59,14 @@ fn long_fits(u: Subject, most: u8, d: Data) -> bool
 }
 
 // What stands behind a fragment's ID: its number, the total byte count, then the data.
+#[tactic(auto, unfolding(crate::specs::Code::prefixed))]
 pub fn prefixed(number: u8, total: u8, d: Data) -> Data
     ensures { result ≡ prefixed number total d }
 {
+    let [b0, b1, b2, b3, _, _] = d.places;
     Data {
         len: d.len % 8 + 2,
-        b0: number,
-        b1: total,
-        b2: d.b0,
-        b3: d.b1,
-        b4: d.b2,
-        b5: d.b3,
+        places: [number, total, b0, b1, b2, b3],
     }
 }
 
@@ -79,16 +77,8 @@ fn put_ten(b0: u8, b1: u8, b2: u8, b3: u8, behind: Data, frame: &mut [u8])
     if frame.len() != FRAME_SIZE {
         return;
     }
-    frame[0] = b0;
-    frame[1] = b1;
-    frame[2] = b2;
-    frame[3] = b3;
-    frame[4] = behind.b0;
-    frame[5] = behind.b1;
-    frame[6] = behind.b2;
-    frame[7] = behind.b3;
-    frame[8] = behind.b4;
-    frame[9] = behind.b5;
+    octets::copy(&[b0, b1, b2, b3], frame);
+    octets::copy(&behind.places, &mut frame[PAYLOAD_PLACE..]);
 }
 
 // Puts a long form into a record of ten bytes, of its flag and what stands behind its ID. Nothing is tested: each field is cut to its bits.

@@ -1,5 +1,6 @@
 -- Bytes, and lists of them.
-use Rattle.std.specs.Prelude.{ℕ, zero, suc, ◌+◌, ◌-◌, ◌/◌, ◌%◌, ◌^◌, ◌<◌, Bool, true, ◌&&◌, List, [], ◌∷◌, ◌++◌, length, get_or, replicate, eqb}
+use Rattle.std.specs.Prelude.{ℕ, zero, suc, ◌+◌, ◌-◌, ◌/◌, ◌%◌, ◌^◌, ◌<◌, Bool, List, [], ◌∷◌, ◌++◌, length, get_or, replicate, eqb}
+use Rattle.std.specs.List.{list_all}
 
 -- bits high to low of a number
 abbrev pub bits : ℕ → ℕ → ℕ → ℕ
@@ -15,8 +16,7 @@ Bytes l = (i : ℕ) → get_or l i 0 < 256
 
 -- each element is 0
 abbrev pub zeros : List ℕ → Bool
-zeros [] = true
-zeros (b ∷ l) = eqb b 0 && zeros l
+zeros l = list_all (λ b. eqb b 0) l
 
 -- the list with zeros behind it, up to n elements
 abbrev pub padded : ℕ → List ℕ → List ℕ

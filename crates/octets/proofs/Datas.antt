@@ -1,21 +1,23 @@
 -- Data and the bytes that it holds: each is read off the other.
 use Prim.Native.Nat.{ℕ, ◌-◌, ◌≤◌, min}
+use Rattle.std.proofs.Math.Path.{PathP, to_path_p}
+use Rattle.std.proofs.Math.Nat.{ℕ_set}
 use mathlib.Core.Path.{◌≡◌, refl, sym, ap, ◌∙◌}
-use mathlib.Core.Bool.{true, cond, and-eq-true_iff}
+use mathlib.Core.Bool.{true, ◌&&◌, and-eq-true_iff}
 use mathlib.Core.List.{List, [], ◌∷◌}
 use native.Mathlib.Omega.{arith}
 use lib.ListN.{length, get_or, take, drop, replicate, length-take}
 use lib.Seq.{length-take-le, take_at, drop_at, get_or-take}
-use lib.Dec.{leb, ltb}
+use lib.Dec.{leb}
 use borrow.Author.Tests.{leb-true, le-leb}
 use Rattle.laws.specs.Bytes.{zeros, padded}
-use Rattle.laws.proofs.Bytes.{are_zeros, get_d_past, padded_take, byte_taken}
+use Rattle.laws.proofs.Bytes.{are_zeros, get_d_past, padded_take}
 use Rattle.octets.specs.declared.Data.{Data}
-use Rattle.octets.specs.Data.{most_data, data_of, places_of, bytes_of, tidy}
+use Rattle.octets.specs.Data.{most_data, six, data_of, places_of, bytes_of, tidy}
 
 -- at most six bytes, and the zeros behind them
 six_padded : (l : List ℕ) → length l ≤ most_data
-    → get_or l 0 0 ∷ get_or l 1 0 ∷ get_or l 2 0 ∷ get_or l 3 0 ∷ get_or l 4 0 ∷ get_or l 5 0 ∷ [] ≡ padded most_data l
+    → six l ≡ padded most_data l
 six_padded [] h = refl
 six_padded (a ∷ []) h = refl
 six_padded (a ∷ b ∷ []) h = refl
@@ -37,6 +39,24 @@ module _ (l : List ℕ) (h : length l ≤ most_data) where
   tidy_data most k =
       let z : zeros (drop (length l) (padded most_data l)) ≡ true = rw (drop_at l (replicate (most_data - length l) 0) (length l) refl) (are_zeros (most_data - length l)) in
       simp (le-leb (length l) most k, six_padded l h, z)
+
+-- six places are those of six elements
+pub six_whole : (l : List ℕ) → length l ≡ most_data → six l ≡ l
+six_whole [] h = absurd (omega (arith, h))
+six_whole (a ∷ []) h = absurd (omega (arith, h))
+six_whole (a ∷ b ∷ []) h = absurd (omega (arith, h))
+six_whole (a ∷ b ∷ c ∷ []) h = absurd (omega (arith, h))
+six_whole (a ∷ b ∷ c ∷ d ∷ []) h = absurd (omega (arith, h))
+six_whole (a ∷ b ∷ c ∷ d ∷ e ∷ []) h = absurd (omega (arith, h))
+six_whole (a ∷ b ∷ c ∷ d ∷ e ∷ f ∷ []) h = refl
+six_whole (a ∷ b ∷ c ∷ d ∷ e ∷ f ∷ g ∷ l) h = absurd (omega (arith, h))
+
+-- data is known by its length and its places
+pub same_data : (d e : Data) → d.len ≡ e.len → d.places ≡ e.places → d ≡ e
+same_data d e p q = λ i. record { len = p i; places = q i; six = same_six i }
+  where
+    same_six : PathP (λ i. length (q i) ≡ 6) d.six e.six
+    same_six = to_path_p (λ i. length (q i) ≡ 6) (ℕ_set (length e.places) 6 (coe 0 1 (k. length (q k) ≡ 6) d.six) e.six)
 
 -- tidy data is at most so long, and is also tidy where there is more room
 pub tidy_most : (most : ℕ) (d : Data) → tidy most d ≡ true → d.len ≤ most
@@ -76,28 +96,18 @@ module _ (d : Data) (t : tidy most_data d ≡ true) where
   -- tidy data is made of the bytes that it holds
   pub data_bytes : data_of (bytes_of d) ≡ d
   unfolding data_of
-  data_bytes = simp (bytes_length, byte_place 0, byte_place 1, byte_place 2, byte_place 3, byte_place 4, byte_place 5)
-
--- the first so many bytes of a list, place by place
-pub data_taken : (n : ℕ) (l : List ℕ) → n ≤ length l
-    → data_of (take n l)
-    ≡ record {
-      len = n;
-      b0 = cond (ltb 0 n) (get_or l 0 0) 0;
-      b1 = cond (ltb 1 n) (get_or l 1 0) 0;
-      b2 = cond (ltb 2 n) (get_or l 2 0) 0;
-      b3 = cond (ltb 3 n) (get_or l 3 0) 0;
-      b4 = cond (ltb 4 n) (get_or l 4 0) 0;
-      b5 = cond (ltb 5 n) (get_or l 5 0) 0;
-    }
-unfolding data_of
-data_taken n l h =
-    simp (length-take-le n l h, byte_taken n l 0, byte_taken n l 1, byte_taken n l 2, byte_taken n l 3, byte_taken n l 4, byte_taken n l 5)
+  data_bytes =
+      same_data (data_of (bytes_of d)) d bytes_length
+      (simp (byte_place 0, byte_place 1, byte_place 2, byte_place 3, byte_place 4, byte_place 5) (six_whole d.places d.six))
 
 -- the front of a list, place by place
-pub data_front : (l : List ℕ)
-    → data_of (take most_data l)
-    ≡ record { len = min most_data (length l); b0 = get_or l 0 0; b1 = get_or l 1 0; b2 = get_or l 2 0; b3 = get_or l 3 0; b4 = get_or l 4 0; b5 = get_or l 5 0 }
+pub data_front : (l : List ℕ) (d : Data) → d.len ≡ min most_data (length l) → d.places ≡ six l → d ≡ data_of (take most_data l)
 unfolding data_of
-data_front l =
-    simp (length-take most_data l, get_or-take most_data l 0 0 (omega arith), get_or-take most_data l 1 0 (omega arith), get_or-take most_data l 2 0 (omega arith), get_or-take most_data l 3 0 (omega arith), get_or-take most_data l 4 0 (omega arith), get_or-take most_data l 5 0 (omega arith))
+data_front l d n p =
+    same_data d (data_of (take most_data l)) (n ∙ sym (length-take most_data l))
+    (p ∙ sym (simp (get_or-take most_data l 0 0 (omega arith), get_or-take most_data l 1 0 (omega arith), get_or-take most_data l 2 0 (omega arith), get_or-take most_data l 3 0 (omega arith), get_or-take most_data l 4 0 (omega arith), get_or-take most_data l 5 0 (omega arith))))
+
+-- tidy data as the code tests it: six places are all that there are
+pub tidy_tested : (most : ℕ) (d : Data) → tidy most d ≡ (leb d.len most && zeros (drop d.len d.places))
+unfolding tidy
+tidy_tested most d = rw (six_whole d.places d.six) refl

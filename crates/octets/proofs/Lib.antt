@@ -1,4 +1,3 @@
 pub mod Copies
 pub mod Datas
-pub mod Cleared
 pub mod Determined

@@ -1,5 +1,6 @@
 -- Data: up to six bytes as a value.
 use Rattle.std.specs.Prelude.{ℕ, Bool, ◌&&◌, List, [], ◌∷◌, length, take, drop, leb}
+use Rattle.std.proofs.Math.Path.{refl}
 use Rattle.laws.specs.Bytes.{byte_at, zeros}
 use Rattle.octets.specs.declared.Data.{Data}
 
@@ -7,21 +8,17 @@ use Rattle.octets.specs.declared.Data.{Data}
 abbrev pub most_data : ℕ
 most_data = 6
 
+-- six places, from those of a list on: 0 where it has none
+abbrev pub six : List ℕ → List ℕ
+six l = byte_at l 0 ∷ byte_at l 1 ∷ byte_at l 2 ∷ byte_at l 3 ∷ byte_at l 4 ∷ byte_at l 5 ∷ []
+
 -- up to six bytes; the places that they do not use hold 0
 unfoldable pub data_of : List ℕ → Data
-data_of l = record {
-  len = length l;
-  b0 = byte_at l 0;
-  b1 = byte_at l 1;
-  b2 = byte_at l 2;
-  b3 = byte_at l 3;
-  b4 = byte_at l 4;
-  b5 = byte_at l 5;
-}
+data_of l = record { len = length l; places = six l; six = refl }
 
 -- the six places of data, and the bytes among them that count
 abbrev pub places_of : Data → List ℕ
-places_of d = d.b0 ∷ d.b1 ∷ d.b2 ∷ d.b3 ∷ d.b4 ∷ d.b5 ∷ []
+places_of d = six d.places
 
 unfoldable pub bytes_of : Data → List ℕ
 bytes_of d = take d.len (places_of d)

@@ -1,10 +1,11 @@
 // Data and the bytes that it holds.
-ghost use Rattle.std.specs.Prelude.{◌≡◌, [], ◌∷◌, min, take, drop};
+ghost use Rattle.std.specs.Prelude.{◌≡◌, [], min, take, drop};
 ghost use Rattle.laws.specs.Bytes.{zeros};
-ghost use Rattle.octets.specs.Data.{most_data, data_of, places_of, tidy};
+ghost use Rattle.octets.specs.Data.{most_data, six, data_of, places_of, tidy};
 
-use crate::places::{byte_at, zeros};
+use crate::places::byte_at;
 use crate::{Data, MOST};
+use std::array;
 
 fn least_of_six(n: usize) -> u8
     ensures { result ≡ min most_data n }
@@ -18,28 +19,25 @@ pub fn no_data() -> Data
 {
     Data {
         len: 0,
-        b0: 0,
-        b1: 0,
-        b2: 0,
-        b3: 0,
-        b4: 0,
-        b5: 0,
+        places: [0; MOST as usize],
     }
 }
 
+// The first six bytes of a slice, 0 where there are fewer.
+fn six_of(bytes: &[u8]) -> [u8; 6]
+    ensures { result ≡ six bytes.now }
+{
+    array::from_fn(|i| byte_at(bytes, i))
+}
+
 // The bytes of a slice, of which at most six have room.
-#[tactic(auto, using(crate::proofs::Datas::data_front))]
+
 pub fn data_from(bytes: &[u8]) -> Data
     ensures { result ≡ data_of (take most_data bytes.now) }
 {
     Data {
         len: least_of_six(bytes.len()),
-        b0: byte_at(bytes, 0),
-        b1: byte_at(bytes, 1),
-        b2: byte_at(bytes, 2),
-        b3: byte_at(bytes, 3),
-        b4: byte_at(bytes, 4),
-        b5: byte_at(bytes, 5),
+        places: six_of(bytes),
     }
 }
 
@@ -47,14 +45,20 @@ pub fn data_from(bytes: &[u8]) -> Data
 pub fn places_of(d: Data) -> [u8; 6]
     ensures { result ≡ places_of d }
 {
-    [d.b0, d.b1, d.b2, d.b3, d.b4, d.b5]
+    d.places
+}
+
+// Whether each place that the bytes leave unused is 0.
+fn rest_is_zero(held: Data) -> bool
+    ensures { result ≡ zeros (drop held.len held.places) }
+{
+    held.places.iter().skip(held.len as usize).all(|b| *b == 0)
 }
 
 // Whether data has at most so many bytes, and 0 in each place that they leave unused.
-#[tactic(auto, unfolding(crate::specs::Data::tidy))]
+#[tactic(auto, using(crate::proofs::Datas::tidy_tested))]
 pub fn is_tidy(most: u8, d: Data) -> bool
     ensures { result ≡ tidy most d }
 {
-    let places = places_of(d);
-    d.len <= most && zeros(places.get(d.len as usize..).unwrap_or(&[]))
+    d.len <= most && rest_is_zero(d)
 }

@@ -1,6 +1,8 @@
 // Bytes as values: the byte of a place, up to six of them with their count, and copying.
 #![tactic(auto)]
 
+ghost use Rattle.std.specs.Prelude.{◌≡◌, length};
+
 mod bodies;
 mod copying;
 mod places;
@@ -16,10 +18,7 @@ pub const MOST: u8 = 6;
 #[derive(Clone, Copy)]
 pub struct Data {
     pub len: u8,
-    pub b0: u8,
-    pub b1: u8,
-    pub b2: u8,
-    pub b3: u8,
-    pub b4: u8,
-    pub b5: u8,
+    pub places: [u8; 6],
+    // An array has its length; this says so to theorems, where it is a list.
+    ghost six: { length places ≡ 6 },
 }

@@ -10,7 +10,6 @@ pub fn byte_at(bytes: &[u8], i: usize) -> u8
 }
 
 // Whether each byte is 0.
-#[tactic(auto, using(crate::proofs::Cleared::zeros_all))]
 pub fn zeros(bytes: &[u8]) -> bool
     ensures { result ≡ zeros bytes.now }
 {

@@ -73,7 +73,7 @@ module _ (r m x : List ℕ) where
     unfolding long_message
     plain_put f e = e ∙ rw (ue, pe) (simp (ne_eqb h.flag 1 f))
 
-    pub fragment_put : h.flag ≡ 1 → (b : Data) → b ≡ unprefixed p → x ≡ put_message (long_bytes 2 u p.b0 p.b1 b) m
+    pub fragment_put : h.flag ≡ 1 → (b : Data) → b ≡ unprefixed p → x ≡ put_message (long_bytes 2 u (byte_at p.places 0) (byte_at p.places 1) b) m
         → x ≡ put_message (long_message h (payload_data r)) m
     unfolding long_message
     fragment_put f b be e = e ∙ rw (be, ue, pe) (simp (eq-eqb h.flag 1 f))

@@ -1,6 +1,6 @@
 -- WHAT THE BORDER PROMISES of messages and records, of what is refused, and of both round trips.
 use Prim.Native.Nat.{ℕ, ◌<◌, ◌≤◌}
-use mathlib.Core.Path.{◌≡◌, refl, ◌∙◌}
+use mathlib.Core.Path.{◌≡◌, refl, ap, ◌∙◌}
 use mathlib.Core.Bool.{true, false, not, ◌&&◌, and-eq-true_iff, or-true}
 use mathlib.Mathlib.Data.Bool.Basic.{or-eq-false-eq-eq-false-and-eq-false as neither}
 use mathlib.Core.List.{List, ◌∷◌}
@@ -13,8 +13,11 @@ use Rattle.laws.specs.Bytes.{Bytes}
 use Rattle.laws.specs.Checks.{Check, first_of, holds_at, FirstAt}
 use Rattle.laws.proofs.Tests.{split, clash}
 use Rattle.laws.proofs.Checks.{above, given_exactly, none_holds}
+use Rattle.octets.specs.declared.Data.{Data}
 use Rattle.octets.specs.Data.{data_of}
 use Rattle.std.specs.Prelude.{Result, Ok, Err}
+use Rattle.octets.proofs.Datas.{same_data, six_whole}
+use Rattle.codec.specs.declared.Subject.{Subject}
 use Rattle.codec.specs.declared.Message.{Message}
 use Rattle.codec.specs.declared.Message.TheVariants.{Short, Plain, Fragment}
 use Rattle.codec.specs.Names.{frame_size, most_address}
@@ -33,11 +36,15 @@ use Rattle.sds.proofs.Places.{bordered_back}
 
 -- ---- the 16 bytes of a message
 
+data_back : (kind : ℕ) (u : Subject) (number total : ℕ) (b : Data) → data_at (long_bytes kind u number total b) ≡ b
+unfolding long_bytes data_at
+data_back kind u number total b = same_data (data_at (long_bytes kind u number total b)) b refl (six_whole b.places b.six)
+
 pub message_back : (m : Message) → message_at (message_bytes m) ≡ m
 unfolding message_at message_bytes long_bytes subject_at data_at
 message_back (Short d a s) = refl
-message_back (Plain u b) = refl
-message_back (Fragment u n k b) = refl
+message_back (Plain u b) = ap (Plain u) (data_back 1 u 0 0 b)
+message_back (Fragment u n k b) = ap (Fragment u n k) (data_back 2 u n k b)
 
 pub message_size_lem : (m : Message) → length (message_bytes m) ≡ message_size
 unfolding message_bytes long_bytes

@@ -1,5 +1,6 @@
 -- What C sees: a message as 16 bytes, and what each entry point answers.
 use Rattle.std.specs.Prelude.{ℕ, ◌+◌, ◌*◌, Bool, cond, not, ◌&&◌, ◌||◌, List, [], ◌∷◌, length, drop, eqb, ltb, Result, Ok, Err}
+use Rattle.std.proofs.Math.Path.{refl}
 use Rattle.laws.specs.Bytes.{byte_at, zeros}
 use Rattle.laws.specs.Checks.{Check, first_of}
 use Rattle.octets.specs.declared.Data.{Data}
@@ -39,7 +40,7 @@ message_bytes (Fragment u number total b) = long_bytes 2 u number total b
 -- what the code puts of a header and of what stands behind the ID of its record: flag clear, or number and total in front
 unfoldable pub long_message : Header → Data → List ℕ
 long_message h p =
-    cond (eqb h.flag 1) (long_bytes 2 (subject_of h) p.b0 p.b1 (unprefixed p)) (long_bytes 1 (subject_of h) 0 0 p)
+    cond (eqb h.flag 1) (long_bytes 2 (subject_of h) (byte_at p.places 0) (byte_at p.places 1) (unprefixed p)) (long_bytes 1 (subject_of h) 0 0 p)
 
 -- and of any record; of one that is read these are its message's bytes (`put_is_message`)
 unfoldable pub record_message : List ℕ → List ℕ
@@ -66,12 +67,8 @@ subject_at l = record {
 unfoldable pub data_at : List ℕ → Data
 data_at l = record {
   len = byte_at l 9;
-  b0 = byte_at l 10;
-  b1 = byte_at l 11;
-  b2 = byte_at l 12;
-  b3 = byte_at l 13;
-  b4 = byte_at l 14;
-  b5 = byte_at l 15;
+  places = byte_at l 10 ∷ byte_at l 11 ∷ byte_at l 12 ∷ byte_at l 13 ∷ byte_at l 14 ∷ byte_at l 15 ∷ [];
+  six = refl;
 }
 
 -- the message of 16 bytes, by their kind; what they hold besides is looked at by `bordered`

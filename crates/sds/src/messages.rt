@@ -29,12 +29,12 @@ fn put_places(kind: u8, u: Subject, number: u8, total: u8, b: Data, message: &mu
     message[7] = number;
     message[8] = total;
     message[9] = b.len;
-    message[10] = b.b0;
-    message[11] = b.b1;
-    message[12] = b.b2;
-    message[13] = b.b3;
-    message[14] = b.b4;
-    message[15] = b.b5;
+    message[10] = b.places[0];
+    message[11] = b.places[1];
+    message[12] = b.places[2];
+    message[13] = b.places[3];
+    message[14] = b.places[4];
+    message[15] = b.places[5];
 }
 
 // The subject of a short message, which has no response, object and ID.
@@ -63,8 +63,8 @@ fn put_long_message(frame: &[u8], h: Header, message: &mut [u8])
     put_places(
         2,
         codec::subject_of(h),
-        p.b0,
-        p.b1,
+        p.places[0],
+        p.places[1],
         codec::unprefixed(p),
         message,
     );
@@ -95,17 +95,20 @@ fn subject_at(message: &[u8]) -> Subject
     }
 }
 
+#[tactic(auto, unfolding(crate::specs::Border::data_at))]
 fn data_at(message: &[u8]) -> Data
     ensures { result ≡ data_at message.now }
 {
     Data {
         len: byte_at(message, 9),
-        b0: byte_at(message, 10),
-        b1: byte_at(message, 11),
-        b2: byte_at(message, 12),
-        b3: byte_at(message, 13),
-        b4: byte_at(message, 14),
-        b5: byte_at(message, 15),
+        places: [
+            byte_at(message, 10),
+            byte_at(message, 11),
+            byte_at(message, 12),
+            byte_at(message, 13),
+            byte_at(message, 14),
+            byte_at(message, 15),
+        ],
     }
 }
 
