@@ -1,24 +1,22 @@
 -- The ten bytes of a written record, one by one.
-use Prim.Native.Nat.{ℕ, suc, ◌+◌, ◌-◌, ◌%◌, ◌≤◌, ◌<◌}
+use Prim.Native.Nat.{ℕ, suc, ◌+◌, ◌-◌, ◌%◌, ◌≤◌}
 use mathlib.Core.Path.{◌≡◌, refl, sym, ap, ◌∙◌}
-use mathlib.Core.Bool.{Bool, true, cond, ◌&&◌, and-false, and-eq-true_iff}
-use mathlib.Core.List.{List, [], ◌∷◌, ◌++◌}
+use mathlib.Core.Bool.{true, and-eq-true_iff}
+use mathlib.Core.List.{List, ◌∷◌, ◌++◌}
 use native.Mathlib.Omega.{arith}
-use lib.ListN.{length, take, drop, length-take, length-drop}
-use lib.Seq.{take_all, get_or-drop}
-use borrow.Author.Tests.{eq-eqb, ne_eqb, le-leb, lt-leb}
+use lib.ListN.{length, drop, length-drop}
+use lib.Seq.{get_or-drop}
+use borrow.Author.Tests.{eq-eqb, le-leb}
 use Rattle.laws.specs.Bytes.{padded}
 use Rattle.laws.proofs.Bytes.{length_padded}
-use Rattle.laws.proofs.Tests.{split}
 use Rattle.octets.specs.declared.Data.{Data}
 use Rattle.octets.specs.Data.{most_data, data_of, places_of, bytes_of, tidy}
 use Rattle.octets.proofs.Datas.{tidy_most, tidy_more, tidy_data, bytes_data, bytes_length, places_padded, byte_place}
 use Rattle.codec.specs.declared.Subject.{Subject}
-use Rattle.codec.specs.declared.Message.{Message}
 use Rattle.codec.specs.declared.Message.TheVariants.{Short, Plain, Fragment}
-use Rattle.codec.specs.Names.{frame_size, payload_place, most_dlc}
+use Rattle.codec.specs.Names.{frame_size, most_dlc, most_fragment_data}
 use Rattle.codec.specs.Reading.{payload_to}
-use Rattle.codec.specs.Writing.{subject_fits, short_fits, carried, long_header, long_frame, frame_of, image_of, write_number, written_of}
+use Rattle.codec.specs.Writing.{subject_fits, short_fits, carried, long_header, long_frame, frame_of, image_of}
 use Rattle.codec.specs.Code.{payload_in, prefixed, unprefixed, cut_of, long_places, short_places, put_long, put_short}
 use Rattle.codec.proofs.Fits.{subject_fits_lem, short_fits_lem}
 
@@ -101,74 +99,29 @@ unfolding data_of unprefixed
 data_unprefixed d t =
     simp (length-drop, bytes_length d t, get_or-drop 2 (bytes_of d), byte_place d t 2, byte_place d t 3, byte_place d t 4, byte_place d t 5, byte_place d t 6, byte_place d t 7)
 
--- ---- what stands behind the ID, as a part of the record
+-- what stands behind the ID, as a part of the record
+pub payload_is : (dlc : ℕ) (r : List ℕ) → length r ≡ frame_size → dlc ≤ most_dlc → payload_in dlc r ≡ payload_to dlc r
+unfolding payload_in
+payload_is dlc r ten most = simp (eq-eqb (length r) frame_size ten, le-leb dlc most_dlc most)
 
-module _ (dlc : ℕ) (r : List ℕ) where
-  pub no_record_part : (length r ≡ frame_size → ⊥) → [] ≡ payload_in dlc r
-  unfolding payload_in
-  no_record_part n = simp (ne_eqb (length r) frame_size n)
+-- ---- what is put of a message that fits is the record of its frame
 
-  pub too_long_part : most_dlc < dlc → [] ≡ payload_in dlc r
-  unfolding payload_in
-  too_long_part h = simp (lt-leb dlc most_dlc h, and-false)
-
-  module _ (ten : length r ≡ frame_size) (most : dlc ≤ most_dlc) where
-    pub payload_is : payload_in dlc r ≡ payload_to dlc r
-    unfolding payload_in
-    payload_is = simp (eq-eqb (length r) frame_size ten, le-leb dlc most_dlc most)
-
-    pub too_short_part : dlc < 2 → [] ≡ payload_in dlc r
-    too_short_part h = let z : dlc - 2 ≡ 0 = omega arith in sym (payload_is ∙ rw z)
-
-    pub within_part : take (dlc + 2 - payload_place) (drop payload_place r) ≡ payload_in dlc r
-    within_part = let e : dlc + 2 - payload_place ≡ dlc - 2 = omega arith in rw e (sym payload_is)
-
-    pub part_as_data : data_of (take most_data (payload_in dlc r)) ≡ data_of (payload_to dlc r)
-    part_as_data =
-        let few : length (payload_to dlc r) ≤ most_data = simp length-take (omega arith) in
-        rw payload_is (ap data_of (take_all most_data (payload_to dlc r) few))
-
--- ---- what writing answers and leaves, from a test of whether the message fits and what is then put
-
-abbrev Leaves : Bool → List ℕ → List ℕ → ℕ → List ℕ → Type 0
-Leaves fits l r number after = (number ≡ cond fits 0 3) × (after ≡ cond fits l r)
-
-module _ (r : List ℕ) (h : length r ≡ 10) (number : ℕ) (after : List ℕ) where
-  written_by : (m : Message) (l : List ℕ) → (carried m ≡ true → l ≡ image_of m) → Leaves (carried m) l r number after
-      → (number ≡ write_number m r) × (after ≡ written_of m r)
-  unfolding write_number written_of
-  written_by m l e w =
-      let ten = eq-eqb (length r) 10 h in
-      split (carried m)
-      (λ t. (w.0 ∙ simp (t, ten), w.1 ∙ simp (t, ten) (e t)))
-      (λ f. (w.0 ∙ simp (f, ten), w.1 ∙ simp (f, ten)))
-
-  pub short_written : (dir address service : ℕ) → Leaves (short_fits dir address service) (put_short dir address service r) r number after
-      → (number ≡ write_number (Short dir address service) r) × (after ≡ written_of (Short dir address service) r)
+module _ (r : List ℕ) (ten : length r ≡ frame_size) where
+  pub short_put : (dir address service : ℕ) → carried (Short dir address service) ≡ true → put_short dir address service r ≡ image_of (Short dir address service)
   unfolding carried put_short
-  short_written dir address service w =
-      written_by (Short dir address service) (put_short dir address service r)
-      (λ t. simp (eq-eqb (length r) 10 h) (short_places_are_image dir address service t)) w
+  short_put dir address service e = simp (eq-eqb (length r) frame_size ten) (short_places_are_image dir address service e)
 
-  pub plain_written : (u : Subject) (b : Data) (fits : Bool) → fits ≡ subject_fits u && tidy 6 b → Leaves fits (put_long u 0 b r) r number after
-      → (number ≡ write_number (Plain u b) r) × (after ≡ written_of (Plain u b) r)
+  pub plain_put : (u : Subject) (b : Data) → carried (Plain u b) ≡ true → put_long u 0 b r ≡ image_of (Plain u b)
   unfolding carried image_of frame_of put_long
-  plain_written u b fits e w =
-      written_by (Plain u b) (put_long u 0 b r)
-      (λ t.
-      let f = (and-eq-true_iff (subject_fits u) (tidy 6 b)).0 t in
-      simp (eq-eqb (length r) 10 h) (places_are_image u 0 b f.0 (omega arith) f.1))
-      (rw e at w)
+  plain_put u b e =
+      let f = (and-eq-true_iff (subject_fits u) (tidy most_data b)).0 e in
+      simp (eq-eqb (length r) frame_size ten) (places_are_image u 0 b f.0 (omega arith) f.1)
 
-  pub fragment_written : (u : Subject) (n total : ℕ) (b : Data) (fits : Bool) → fits ≡ subject_fits u && tidy 4 b
-      → (p : Data) → p ≡ prefixed n total b → Leaves fits (put_long u 1 p r) r number after
-      → (number ≡ write_number (Fragment u n total b) r) × (after ≡ written_of (Fragment u n total b) r)
+  pub fragment_put : (u : Subject) (n total : ℕ) (b : Data) → carried (Fragment u n total b) ≡ true
+      → put_long u 1 (prefixed n total b) r ≡ image_of (Fragment u n total b)
   unfolding carried image_of frame_of put_long
-  fragment_written u n total b fits e p q w =
-      written_by (Fragment u n total b) (put_long u 1 (prefixed n total b) r)
-      (λ t.
-      let f = (and-eq-true_iff (subject_fits u) (tidy 4 b)).0 t in
+  fragment_put u n total b e =
+      let f = (and-eq-true_iff (subject_fits u) (tidy most_fragment_data b)).0 e in
       let w = fragment_payload n total b f.1 in
-      simp (eq-eqb (length r) 10 h, prefixed_is n total b f.1) (places_are_image u 1 _ f.0 (omega arith) w.0)
-      ∙ ap (λ (p : List ℕ). padded 10 (long_frame u 1 p)) w.1)
-      (rw (e, q) at w)
+      simp (eq-eqb (length r) frame_size ten, prefixed_is n total b f.1)
+      (places_are_image u 1 _ f.0 (omega arith) w.0 ∙ ap (λ (p : List ℕ). padded frame_size (long_frame u 1 p)) w.1)

@@ -34,7 +34,7 @@ use Rattle.codec.proofs.heading.can_bytes.Reads as can-bytes
 use Rattle.codec.proofs.reading.payload_in.Reads as payload-in
 use Rattle.codec.proofs.reading.payload_of.Reads as payload-of
 use Rattle.codec.proofs.reading.readable.Reads as readable
-use Rattle.codec.proofs.reading.subject_of.Reads as subject-of
+use Rattle.codec.proofs.Header.subject.Reads as subject-of
 use Rattle.codec.proofs.reading.unprefixed.Reads as unprefixed
 use Rattle.codec.proofs.reading.read.Reads as read
 use Rattle.codec.proofs.ReadError.number.Reads as read-number

@@ -6,6 +6,7 @@ use crate::{Can, Header};
 use octets::byte_at;
 
 // The fields of the first four bytes. A byte that the record lacks counts as 0.
+#[tactic(auto, unfolding(crate::specs::Fields::header_of))]
 pub fn header_of(frame: &[u8]) -> Header
     ensures { result ≡ header_of frame.now }
 {
@@ -27,6 +28,7 @@ pub fn header_of(frame: &[u8]) -> Header
 }
 
 // The CAN header in the first two bytes. A byte that the record lacks counts as 0.
+#[tactic(auto, unfolding(crate::specs::Fields::header_of, crate::specs::Fields::can_of))]
 pub fn can_of(frame: &[u8]) -> Can
     ensures { result ≡ can_of frame.now }
 {
@@ -40,6 +42,7 @@ pub fn can_of(frame: &[u8]) -> Can
 }
 
 // The first two bytes of the record with this CAN header, each field cut to its bits.
+#[tactic(auto, unfolding(crate::specs::Fields::can_bytes))]
 pub fn can_bytes(can: Can) -> [u8; 2]
     ensures { result ≡ can_bytes can }
 {

@@ -2,7 +2,7 @@
 #![tactic(auto)]
 
 ghost use Rattle.std.specs.Prelude.{◌≡◌};
-ghost use Rattle.codec.specs.Reading.{read_error_number};
+ghost use Rattle.codec.specs.Reading.{subject_of, read_error_number};
 ghost use Rattle.codec.specs.Writing.{write_error_number};
 
 mod heading;
@@ -10,7 +10,7 @@ mod reading;
 mod writing;
 
 pub use heading::{can_bytes, can_of, header_of};
-pub use reading::{payload_in, payload_of, read, readable, subject_of, unprefixed};
+pub use reading::{payload_in, payload_of, read, readable, unprefixed};
 pub use writing::{prefixed, put_long, put_short, write};
 
 // The bytes of a record.
@@ -74,6 +74,22 @@ pub struct Header {
     pub id: u8,
 }
 
+impl Header {
+    // What a long message with this header says of itself.
+    pub fn subject(self) -> Subject
+        ensures { result ≡ subject_of self }
+    {
+        Subject {
+            dir: self.dir,
+            address: self.address,
+            service: self.service,
+            response: self.response,
+            object: self.object,
+            id: self.id,
+        }
+    }
+}
+
 // The CAN header of a record: the identifier of 11 bits, RTR and the data length code (000, figure 3.2).
 #[derive(Clone, Copy)]
 pub struct Can {
@@ -82,7 +98,8 @@ pub struct Can {
     pub dlc: u8,
 }
 
-// What each long message says of itself: from or to whom, which service, request or response, of what.
+// What each long message says of itself: from or to whom, which service, request or response, of what. A field may be any byte, since `write` takes any
+// message: it refuses with `Unfit` what no frame carries (`write_refuses_exactly`), which a type that holds less would ask of its callers.
 #[derive(Clone, Copy)]
 pub struct Subject {
     pub dir: u8,

@@ -11,7 +11,7 @@ use crate::{
     FRAME_SIZE, Header, LOWEST_LONG, MOST_ADDRESS, MOST_DLC, Message, PAYLOAD_PLACE, ReadError,
     Subject,
 };
-use octets::{Data, data_from, no_data};
+use octets::{Data, data_from};
 
 // Whether a record of ten bytes with this header is read, or why not. The order is 01's.
 fn served(h: Header) -> Result<(), ReadError>
@@ -29,59 +29,24 @@ fn served(h: Header) -> Result<(), ReadError>
     Ok(())
 }
 
-// What a long message says of itself, from its header.
-pub fn subject_of(h: Header) -> Subject
-    ensures { result ≡ subject_of h }
-{
-    Subject {
-        dir: h.dir,
-        address: h.address,
-        service: h.service,
-        response: h.response,
-        object: h.object,
-        id: h.id,
-    }
-}
-
 // What stands behind the ID, up to this DLC, as a part of the record. Nothing of a record that is not ten bytes long, or for a DLC over 8.
+#[tactic(auto, unfolding(crate::specs::Code::payload_in))]
 pub fn payload_in<'a>(dlc: u8, frame: &'a [u8]) -> &'a [u8]
     ensures { result.now ≡ payload_in dlc frame.now }
 {
     if frame.len() != FRAME_SIZE {
-        return &frame[0..0];
-    }
-    if MOST_DLC < dlc {
-        return &frame[0..0];
-    }
-    if dlc < 2 {
-        return &frame[0..0];
+        return &[];
     }
     let end = dlc as usize + 2;
-    &frame[PAYLOAD_PLACE..end]
-}
-
-// What stands behind the ID of a record of ten bytes, up to this DLC. Nothing where it is over 8.
-fn payload_to(dlc: u8, frame: &[u8]) -> Data
-    requires { length frame.now ≡ frame_size }
-    ensures { result ≡ cond (leb dlc most_dlc) (data_of (payload_to dlc frame.now)) (data_of []) }
-{
-    if MOST_DLC < dlc {
-        return no_data();
-    }
-    if dlc < 2 {
-        return no_data();
-    }
-    data_from(payload_in(dlc, frame))
+    frame.get(PAYLOAD_PLACE..end).unwrap_or(&[])
 }
 
 // What stands behind the ID, up to the DLC. Nothing of a record that is not ten bytes long, or whose DLC is over 8.
+#[tactic(auto, unfolding(crate::specs::Code::payload_in, crate::specs::Code::payload_data))]
 pub fn payload_of(frame: &[u8]) -> Data
     ensures { result ≡ payload_data frame.now }
 {
-    if frame.len() != FRAME_SIZE {
-        return no_data();
-    }
-    payload_to(header_of(frame).dlc, frame)
+    data_from(payload_in(header_of(frame).dlc, frame))
 }
 
 // What stands behind a fragment's number and total: the way back from `prefixed`.
@@ -97,21 +62,23 @@ pub fn unprefixed(p: Data) -> Data
 }
 
 // A long message, of what stands behind its ID. With the flag set the first two bytes are no data.
+#[tactic(auto, using(crate::proofs::Images::data_unprefixed, octets::proofs::Datas::data_bytes, octets::proofs::Datas::byte_place), unfolding(crate::specs::Reading::long_of))]
 fn long_of(about: Subject, flag: u8, payload: Data) -> Message
     requires { tidy most_data payload ≡ true }
     ensures { result ≡ long_of about flag (bytes_of payload) }
 {
-    if flag != 1 {
-        return Message::Plain {
+    if flag == 1 {
+        Message::Fragment {
+            about,
+            number: payload.places[0],
+            total: payload.places[1],
+            body: unprefixed(payload),
+        }
+    } else {
+        Message::Plain {
             about,
             body: payload,
-        };
-    }
-    Message::Fragment {
-        about,
-        number: payload.places[0],
-        total: payload.places[1],
-        body: unprefixed(payload),
+        }
     }
 }
 
@@ -138,5 +105,5 @@ pub fn read(frame: &[u8]) -> Result<Message, ReadError>
             service: h.service,
         });
     }
-    Ok(long_of(subject_of(h), h.flag, payload_of(frame)))
+    Ok(long_of(h.subject(), h.flag, payload_of(frame)))
 }

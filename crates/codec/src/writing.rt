@@ -1,61 +1,48 @@
 // Writing: a message to the ten bytes of a record that carries it.
-ghost use Rattle.std.specs.Prelude.{◌≡◌, cond, ◌&&◌, ◌∷◌};
-ghost use Rattle.octets.specs.Data.{places_of, tidy};
-ghost use Rattle.codec.specs.Writing.{subject_fits, short_fits, write_number, written_number, written_of};
+ghost use Rattle.std.specs.Prelude.{◌≡◌, ◌<◌, ◌%◌, ◌&&◌, leb, true, length};
+ghost use Rattle.codec.specs.Names.{frame_size, lowest_long};
+ghost use Rattle.codec.specs.Writing.{subject_fits, carried, can_header, image_of, write_number, written_number, written_of};
 ghost use Rattle.codec.specs.Code.{prefixed, put_ten, put_long, put_short};
 
 use crate::{
-    FRAME_SIZE, LOWEST_LONG, MOST_ADDRESS, MOST_FRAGMENT_DATA, Message, PAYLOAD_PLACE, Subject,
-    WriteError,
+    FRAME_SIZE, LOWEST_LONG, MOST_ADDRESS, MOST_FRAGMENT_DATA, Message, Subject, WriteError,
 };
-use octets::{Data, is_tidy, no_data};
+use octets::{Data, is_tidy};
 
+// Whether a service has a long form that is read (000, 3.2.2.2).
+fn is_long(service: u8) -> bool
+    ensures { result ≡ (leb lowest_long service && leb service 7) }
+{
+    LOWEST_LONG <= service && service <= 7
+}
+
+#[tactic(auto, unfolding(crate::specs::Writing::subject_fits))]
 fn subject_fits(u: Subject) -> bool
     ensures { result ≡ subject_fits u }
 {
-    if 1 < u.dir {
-        return false;
-    }
-    if MOST_ADDRESS < u.address {
-        return false;
-    }
-    if u.service < LOWEST_LONG {
-        return false;
-    }
-    if 7 < u.service {
-        return false;
-    }
-    if 3 < u.response {
-        return false;
-    }
-    if 31 < u.object {
-        return false;
-    }
-    true
+    u.dir <= 1
+        && u.address <= MOST_ADDRESS
+        && is_long(u.service)
+        && u.response <= 3
+        && u.object <= 31
 }
 
-fn short_fits(dir: u8, address: u8, service: u8) -> bool
-    ensures { result ≡ short_fits dir address service }
+// Whether some readable frame carries the message.
+#[tactic(auto, unfolding(crate::specs::Writing::carried, crate::specs::Writing::short_fits))]
+fn carried(m: Message) -> bool
+    ensures { result ≡ carried m }
 {
-    if 1 < dir {
-        return false;
+    match m {
+        Message::Short {
+            dir,
+            address,
+            service,
+        } => dir <= 1 && address <= MOST_ADDRESS && service <= 7,
+        Message::Plain { about, body } => subject_fits(about) && is_tidy(octets::MOST, body),
+        Message::Fragment { about, body, .. } => {
+            subject_fits(about) && is_tidy(MOST_FRAGMENT_DATA, body)
+        }
     }
-    if MOST_ADDRESS < address {
-        return false;
-    }
-    if 7 < service {
-        return false;
-    }
-    true
-}
-
-fn long_fits(u: Subject, most: u8, d: Data) -> bool
-    ensures { result ≡ subject_fits u && tidy most d }
-{
-    if subject_fits(u) {
-        return is_tidy(most, d);
-    }
-    false
 }
 
 // What stands behind a fragment's ID: its number, the total byte count, then the data.
@@ -70,96 +57,76 @@ pub fn prefixed(number: u8, total: u8, d: Data) -> Data
     }
 }
 
-// Puts ten bytes into a record of ten, the last six of them the places of data. One of another length stays.
-fn put_ten(b0: u8, b1: u8, b2: u8, b3: u8, behind: Data, frame: &mut [u8])
-    ensures { frame.new ≡ put_ten (b0 ∷ b1 ∷ b2 ∷ b3 ∷ places_of behind) frame.old }
+// The CAN header of a frame, each field cut to its bits.
+fn can_header(dir: u8, address: u8, service: u8, dlc: u8) -> [u8; 2]
+    requires { dlc < 32 }
+    ensures { result ≡ can_header (dir % 2) (address % 128) (service % 8) dlc }
 {
-    if frame.len() != FRAME_SIZE {
-        return;
+    [dir % 2 * 128 + address % 128, service % 8 * 32 + dlc]
+}
+
+// Puts ten bytes into a record of ten. One of another length stays.
+fn put_ten(bytes: [u8; FRAME_SIZE], frame: &mut [u8])
+    ensures { frame.new ≡ put_ten bytes frame.old }
+{
+    if frame.len() == FRAME_SIZE {
+        frame.copy_from_slice(&bytes);
     }
-    octets::copy(&[b0, b1, b2, b3], frame);
-    octets::copy(&behind.places, &mut frame[PAYLOAD_PLACE..]);
 }
 
 // Puts a long form into a record of ten bytes, of its flag and what stands behind its ID. Nothing is tested: each field is cut to its bits.
+#[tactic(auto, unfolding(crate::specs::Code::put_long, crate::specs::Code::long_places))]
 pub fn put_long(u: Subject, flag: u8, payload: Data, frame: &mut [u8])
     ensures { frame.new ≡ put_long u flag payload frame.old }
 {
-    let b0 = u.dir % 2 * 128 + u.address % 128;
-    let b1 = u.service % 8 * 32 + (payload.len % 8 + 2);
+    let [b0, b1] = can_header(u.dir, u.address, u.service, payload.len % 8 + 2);
     let b2 = u.response % 4 * 64 + flag % 2 * 32 + u.object % 32;
-    put_ten(b0, b1, b2, u.id, payload, frame);
+    let [d0, d1, d2, d3, d4, d5] = octets::places_of(payload);
+    put_ten([b0, b1, b2, u.id, d0, d1, d2, d3, d4, d5], frame);
 }
 
 // Puts a short form into a record of ten bytes. Nothing is tested: each field is cut to its bits.
+#[tactic(auto, unfolding(crate::specs::Code::put_short, crate::specs::Code::short_places))]
 pub fn put_short(dir: u8, address: u8, service: u8, frame: &mut [u8])
     ensures { frame.new ≡ put_short dir address service frame.old }
 {
-    let b0 = dir % 2 * 128 + address % 128;
-    let b1 = service % 8 * 32;
-    put_ten(b0, b1, 0, 0, no_data(), frame);
+    let [b0, b1] = can_header(dir, address, service, 0);
+    put_ten([b0, b1, 0, 0, 0, 0, 0, 0, 0, 0], frame);
 }
 
-// Writes a short form, if it fits.
-fn write_short(dir: u8, address: u8, service: u8, frame: &mut [u8]) -> Result<(), WriteError>
-    ensures { (written_number result ≡ cond (short_fits dir address service) 0 3)
-        × (frame.new ≡ cond (short_fits dir address service) (put_short dir address service frame.old) frame.old) }
+// Puts the frame that carries a message.
+#[tactic(auto, using(crate::proofs::Images::short_put, crate::proofs::Images::plain_put, crate::proofs::Images::fragment_put))]
+fn put(m: Message, frame: &mut [u8])
+    requires { (carried m ≡ true) × (length frame.old ≡ frame_size) }
+    ensures { frame.new ≡ image_of m }
 {
-    if short_fits(dir, address, service) {
-        put_short(dir, address, service, frame);
-        return Ok(());
+    match m {
+        Message::Short {
+            dir,
+            address,
+            service,
+        } => put_short(dir, address, service, frame),
+        Message::Plain { about, body } => put_long(about, 0, body, frame),
+        Message::Fragment {
+            about,
+            number,
+            total,
+            body,
+        } => put_long(about, 1, prefixed(number, total, body), frame),
     }
-    Err(WriteError::Unfit)
-}
-
-// Writes a long form, if its message fits.
-fn write_long(
-    fits: bool,
-    u: Subject,
-    flag: u8,
-    payload: Data,
-    frame: &mut [u8],
-) -> Result<(), WriteError>
-    ensures { (written_number result ≡ cond fits 0 3) × (frame.new ≡ cond fits (put_long u flag payload frame.old) frame.old) }
-{
-    if fits {
-        put_long(u, flag, payload, frame);
-        return Ok(());
-    }
-    Err(WriteError::Unfit)
 }
 
 // Writes the record that carries a message, or says why not, and the record stays.
+#[tactic(auto, unfolding(crate::specs::Writing::write_number, crate::specs::Writing::written_of))]
 pub fn write(m: Message, frame: &mut [u8]) -> Result<(), WriteError>
     ensures { (written_number result ≡ write_number m frame.old) × (frame.new ≡ written_of m frame.old) }
 {
     if frame.len() != FRAME_SIZE {
         return Err(WriteError::Size);
     }
-    match m {
-        Message::Short {
-            dir,
-            address,
-            service,
-        } => write_short(dir, address, service, frame),
-        Message::Plain { about, body } => write_long(
-            long_fits(about, octets::MOST, body),
-            about,
-            0,
-            body,
-            frame,
-        ),
-        Message::Fragment {
-            about,
-            number,
-            total,
-            body,
-        } => write_long(
-            long_fits(about, MOST_FRAGMENT_DATA, body),
-            about,
-            1,
-            prefixed(number, total, body),
-            frame,
-        ),
+    if !carried(m) {
+        return Err(WriteError::Unfit);
     }
+    put(m, frame);
+    Ok(())
 }

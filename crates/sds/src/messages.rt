@@ -57,17 +57,10 @@ fn put_long_message(frame: &[u8], h: Header, message: &mut [u8])
 {
     let p = codec::payload_of(frame);
     if h.flag != 1 {
-        put_places(1, codec::subject_of(h), 0, 0, p, message);
+        put_places(1, h.subject(), 0, 0, p, message);
         return;
     }
-    put_places(
-        2,
-        codec::subject_of(h),
-        p.places[0],
-        p.places[1],
-        codec::unprefixed(p),
-        message,
-    );
+    put_places(2, h.subject(), p.places[0], p.places[1], codec::unprefixed(p), message);
 }
 
 // Puts the message of a record. Nothing is tested but the buffer's length: of a record that the codec refuses it is no message.

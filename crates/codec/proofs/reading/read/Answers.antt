@@ -38,4 +38,4 @@ returns c =
     let p = behind _ _ _ u c.header_of-h.ensures c.if-h-eq0.false c.payload_of.ensures in
     sym
     (got _ t.0 t.1
-    ∙ simp (c.long_of.ensures, c.subject_of.ensures, p.bytes, ← c.header_of-h.ensures, ne_eqb _ 0 c.if-h-eq0.false))
+    ∙ simp (c.long_of.ensures, c.subject.ensures, p.bytes, ← c.header_of-h.ensures, ne_eqb _ 0 c.if-h-eq0.false))
