@@ -1,45 +1,48 @@
--- A table walked record by record: from a place on, it is the record there and what stands behind it.
-use Rattle.std.proofs.Common.{Option, Some, None}
-use Prim.Native.Nat.{ℕ, suc, ◌+◌, ◌/◌, ◌≤◌, ◌<◌}
-use mathlib.Core.Path.{◌≡◌, ap}
+-- A table as its records: what the definitions say of its bytes, said of them.
+use Prim.Native.Nat.{ℕ, zero, suc, ◌+◌, ◌/◌, ◌<◌, ◌≤◌}
+use mathlib.Core.Path.{◌≡◌, refl, ap}
 use mathlib.Core.Bool.{Bool, cond, ◌&&◌}
-use mathlib.Core.List.{List, [], ◌∷◌}
+use mathlib.Core.List.{List, [], ◌∷◌, map}
 use native.Mathlib.Omega.{arith}
-use lib.ListN.{length, drop, length-drop}
-use lib.Seq.{drop-drop}
+use lib.ListN.{length, get_or, take, drop, drop_of_length-le}
 use lib.Dec.{leb}
+use lib.Seq.{get_or-take, drop-cons}
+use Rattle.std.proofs.Common.{Option, Some}
+use Rattle.std.specs.List.{find}
+use Rattle.std.specs.Simd.{first_chunks}
 use Rattle.table.specs.declared.Attribute.{Attribute}
-use Rattle.table.specs.Table.{entry_size, attribute_of, attributes, pair_of, end_of, follows, well_from, first_in}
+use Rattle.table.specs.Code.{records}
+use Rattle.table.specs.Table.{entry_size, attribute_of, attributes_of, attributes, pair_of, end_of, follows, well_from, first_in}
 
--- a place that a whole record stands at: what a walk does with that record
-module _ (t : List ℕ) (at : ℕ) (a : Attribute) (h : at + entry_size ≤ length t) (e : a ≡ attribute_of (drop at t)) where
-  more : attributes (drop at t) ≡ a ∷ attributes (drop (at + entry_size) t)
-  unfolding attributes
-  more =
-      let n : length (drop at t) / entry_size ≡ suc (length (drop (at + entry_size) t) / entry_size) = simp length-drop (omega arith) in
-      rw (n, drop-drop entry_size at t, e)
+-- a record is the front of what stands at its place
+front : (t : List ℕ) → attribute_of (take entry_size t) ≡ attribute_of t
+unfolding attribute_of
+front t =
+    simp (get_or-take entry_size t 0 0 (omega arith), get_or-take entry_size t 1 0 (omega arith), get_or-take entry_size t 2 0 (omega arith), get_or-take entry_size t 3 0 (omega arith), get_or-take entry_size t 4 0 (omega arith), get_or-take entry_size t 5 0 (omega arith), get_or-take entry_size t 6 0 (omega arith), get_or-take entry_size t 7 0 (omega arith))
 
-  pub first_turn : (test : Attribute → Bool) (b : Bool) → test a ≡ b
-      → first_in test (attributes (drop at t)) ≡ cond b (Some a) (first_in test (attributes (drop (at + entry_size) t)))
-  unfolding first_in
-  first_turn test b y = rw more (ap (λ (x : Bool). cond {A = Option Attribute} x (Some a) (first_in test (attributes (drop (at + entry_size) t)))) y)
+said : (n : ℕ) (t : List ℕ) → map attribute_of (first_chunks entry_size n t) ≡ attributes_of n t
+said zero t = refl
+said (suc n) t = rw (front t, said n (drop entry_size t))
 
-  pub well_turn : (least end size : ℕ) (b : Bool) → follows least end a ≡ b
-      → well_from least end (attributes (drop at t)) size
-      ≡ (b && well_from (pair_of a + 1) (end_of a) (attributes (drop (at + entry_size) t)) size)
-  unfolding well_from
-  well_turn least end size b y = rw more (ap (λ (x : Bool). x && well_from (pair_of a + 1) (end_of a) (attributes (drop (at + entry_size) t)) size) y)
+pub attributes_said : (t : List ℕ) → map attribute_of (records t) ≡ attributes t
+unfolding attributes
+attributes_said t = said (length t / entry_size) t
 
--- a place that no whole record stands at any more
-module _ (t : List ℕ) (at : ℕ) (h : length t < at + entry_size) where
-  no_more : attributes (drop at t) ≡ []
-  unfolding attributes
-  no_more = let n : length (drop at t) / entry_size ≡ 0 = simp length-drop (omega arith) in rw n
+-- the first that a test takes, in std's words
+pub first_found : (test : Attribute → Bool) (es : List Attribute) → find test es ≡ first_in test es
+unfolding first_in
+first_found test [] = refl
+first_found test (a ∷ es) = ap (λ (f : Option Attribute). cond (test a) (Some a) f) (first_found test es)
 
-  pub first_ends : (test : Attribute → Bool) → first_in test (attributes (drop at t)) ≡ None
-  unfolding first_in
-  first_ends test = rw no_more
+-- a pass over the records: at one of them, and behind the last
+pub well_turn : (rs : List (List ℕ)) (i : ℕ) (a : Attribute) → i < length rs → a ≡ attribute_of (get_or rs i []) → (least end size : ℕ) (b : Bool)
+    → follows least end a ≡ b
+    → well_from least end (map attribute_of (drop i rs)) size ≡ (b && well_from (pair_of a + 1) (end_of a) (map attribute_of (drop (i + 1) rs)) size)
+unfolding well_from
+well_turn rs i a h e least end size b y =
+    let k : suc i ≡ i + 1 = omega arith in
+    rw (drop-cons rs i [] h, ← e, y, ← k)
 
-  pub well_ends : (least end size : ℕ) → well_from least end (attributes (drop at t)) size ≡ leb end size
-  unfolding well_from
-  well_ends least end size = rw no_more
+pub well_ends : (rs : List (List ℕ)) (i : ℕ) → length rs ≤ i → (least end size : ℕ) → well_from least end (map attribute_of (drop i rs)) size ≡ leb end size
+unfolding well_from
+well_ends rs i h least end size = rw (drop_of_length-le rs {i = i} h) refl

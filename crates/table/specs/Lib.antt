@@ -1,2 +1,3 @@
+pub mod Code
 pub mod Descriptor
 pub mod Table

@@ -1,30 +1,31 @@
 // The records of a table: what one holds, whether it fits by itself, and whether all of them are well formed.
-ghost use Rattle.std.specs.Prelude.{◌≡◌, ◌+◌, ◌*◌, ◌≤◌, length, drop};
-ghost use Rattle.table.specs.Table.{entry_size, attribute_of, readable, writable, network, entry_fits, single_boolean, pair_of, end_of, follows, well_formed};
+ghost use Rattle.std.specs.Prelude.{◌≡◌};
+ghost use Rattle.table.specs.Code.{records};
+ghost use Rattle.table.specs.Table.{attribute_of, readable, writable, network, described, entry_fits, single_boolean, pair_of, end_of, follows, well_formed};
 
 use crate::Attribute;
 use crate::descriptor::{BOOLEAN, descriptor_size};
 use crate::sizes::ENTRY;
 
-// A word of the table: low byte first.
-fn word(low: u8, high: u8) -> u16
-    ensures { result ≡ low + 256 * high }
+// The records of a table; bytes behind the last whole one are none.
+pub(crate) fn records(table: &[u8]) -> &[[u8; ENTRY]]
+    ensures { result.now ≡ records table.now }
 {
-    (low as u16) + 256 * (high as u16)
+    table.as_chunks().0
 }
 
-// The record at a place.
-pub(crate) fn attribute_at(table: &[u8], at: usize) -> Attribute
-    requires { at + entry_size ≤ length table.now }
-    ensures { result ≡ attribute_of (drop at table.now) }
+// What a record says.
+#[tactic(auto, unfolding(crate::specs::Table::attribute_of))]
+pub(crate) fn attribute_of(entry: &[u8; ENTRY]) -> Attribute
+    ensures { result ≡ attribute_of entry.now }
 {
     Attribute {
-        object: table[at],
-        id: table[at + 1],
-        access: table[at + 2],
-        len: table[at + 3],
-        offset: word(table[at + 4], table[at + 5]),
-        descriptor: word(table[at + 6], table[at + 7]),
+        object: entry[0],
+        id: entry[1],
+        access: entry[2],
+        len: entry[3],
+        offset: u16::from_le_bytes([entry[4], entry[5]]),
+        descriptor: u16::from_le_bytes([entry[6], entry[7]]),
     }
 }
 
@@ -49,35 +50,26 @@ pub(crate) fn is_network(a: Attribute) -> bool
 }
 
 // Whether it is one point in one byte: a Boolean of undefined size, or sized as a byte (02, 2026-01).
+#[tactic(auto, using(crate::proofs::Descriptors::one_element), unfolding(crate::specs::Table::single_boolean))]
 pub fn single_boolean(a: Attribute) -> bool
     ensures { result ≡ single_boolean a }
 {
-    if a.descriptor / 256 % 16 != BOOLEAN {
-        return false;
-    }
-    if a.descriptor % 32 != 0 {
-        return false;
-    }
-    a.len == 1
+    a.descriptor / 256 % 16 == BOOLEAN && a.descriptor % 32 == 0 && a.len == 1
+}
+
+// Whether a network record has the size of its descriptor, and another record none.
+fn is_described(a: Attribute) -> bool
+    ensures { result ≡ described a }
+{
+    if is_network(a) { a.len == descriptor_size(a.descriptor) } else { a.descriptor == 0 }
 }
 
 // Whether a record by itself is as 01's table says.
+#[tactic(auto, unfolding(crate::specs::Table::entry_fits))]
 fn entry_fits(a: Attribute) -> bool
     ensures { result ≡ entry_fits a }
 {
-    if 31 < a.object {
-        return false;
-    }
-    if 7 < a.access {
-        return false;
-    }
-    if a.len < 1 {
-        return false;
-    }
-    if !is_network(a) {
-        return a.descriptor == 0;
-    }
-    a.len == descriptor_size(a.descriptor)
+    a.object <= 31 && a.access <= 7 && 1 <= a.len && is_described(a)
 }
 
 // Object and ID as one number, which a well-formed table has rise.
@@ -98,30 +90,23 @@ pub(crate) fn end_of(a: Attribute) -> usize
 fn follows(least: usize, end: usize, a: Attribute) -> bool
     ensures { result ≡ follows least end a }
 {
-    if pair_of(a) < least {
-        return false;
-    }
-    if (a.offset as usize) != end {
-        return false;
-    }
-    entry_fits(a)
+    least <= pair_of(a) && a.offset as usize == end && entry_fits(a)
 }
 
 // Check 2: one pass over the table.
 pub fn well_formed(table: &[u8], store_len: usize) -> bool
     ensures { result ≡ well_formed table.now store_len }
 {
-    let mut least: usize = 0;
-    let mut end: usize = 0;
-    let mut at: usize = 0;
-    while at + ENTRY <= table.len() {
-        let a = attribute_at(table, at);
+    let mut least = 0;
+    let mut end = 0;
+    let records = records(table);
+    for entry in records {
+        let a = attribute_of(entry);
         if !follows(least, end, a) {
             return false;
         }
         least = pair_of(a) + 1;
         end = end_of(a);
-        at += ENTRY;
     }
     end <= store_len
 }

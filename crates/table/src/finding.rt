@@ -1,69 +1,40 @@
 // Finding an attribute, by its object and ID or as the first network record of an object, and its part of the store.
 ghost use Rattle.std.specs.Prelude.{◌≡◌};
-ghost use Rattle.table.specs.Table.{named, searched, network_of, first_network, part_of};
+ghost use Rattle.std.specs.Fn.{FnReturnsAt};
+ghost use Rattle.table.specs.Table.{searched, first_network, part_of};
+ghost use Rattle.table.specs.Code.{IsFirst};
 
 use crate::Attribute;
-use crate::entries::{attribute_at, end_of, is_network};
-use crate::sizes::ENTRY;
+use crate::entries::{attribute_of, end_of, is_network, records};
 
-// Whether it is the attribute of this object and ID.
-fn named(object: u8, id: u8, a: Attribute) -> bool
-    ensures { result ≡ named object id a }
+// The first attribute that a test takes, in any table, well formed or not: one walk.
+fn first<F: Fn(&Attribute) -> bool>(table: &[u8], test: F) -> Option<Attribute>
+    requires { F.IsAlwaysCallable test }
+    ensures { IsFirst (FnReturnsAt F.Fn test) table.now result }
 {
-    if a.object != object {
-        return false;
-    }
-    a.id == id
+    records(table).iter().map(attribute_of).find(test)
 }
 
-// The record of (object, ID), in any table, well formed or not: one walk, to the first that bears the name.
+// The record of (object, ID).
+#[tactic(auto, unfolding(crate::specs::Table::find))]
 pub fn find(table: &[u8], object: u8, id: u8) -> Option<Attribute>
     ensures { result ≡ searched table.now object id }
 {
-    let mut at: usize = 0;
-    while at + ENTRY <= table.len() {
-        let a = attribute_at(table, at);
-        if named(object, id, a) {
-            return Some(a);
-        }
-        at += ENTRY;
-    }
-    None
-}
-
-// Whether it is network data of this object.
-fn network_of(object: u8, a: Attribute) -> bool
-    ensures { result ≡ network_of object a }
-{
-    if is_network(a) {
-        return a.object == object;
-    }
-    false
+    first(table, |a| a.object == object && a.id == id)
 }
 
 // The first network record of an object, in table order (02, 2026-01).
+#[tactic(auto, unfolding(crate::specs::Table::first_network))]
 pub fn first_network(table: &[u8], object: u8) -> Option<Attribute>
     ensures { result ≡ first_network table.now object }
 {
-    let mut place: usize = 0;
-    while place + ENTRY <= table.len() {
-        let a = attribute_at(table, place);
-        if network_of(object, a) {
-            return Some(a);
-        }
-        place += ENTRY;
-    }
-    None
+    first(table, |a| is_network(*a) && a.object == object)
 }
 
 // An attribute's part of the lent store, "which the lookup hands back as a part of the caller's store"; empty where it would run past its end.
+#[tactic(auto, unfolding(crate::specs::Table::part_of))]
 pub fn part<'a>(a: Attribute, store: &'a [u8]) -> &'a [u8]
     ensures { result.now ≡ part_of a store.now }
 {
-    let start = a.offset as usize;
-    let end = end_of(a);
-    if store.len() < end {
-        return &store[..0];
-    }
-    &store[start..end]
+    store.get(a.offset as usize..end_of(a)).unwrap_or(&[])
 }

@@ -10,14 +10,9 @@ const MOST_ENTRIES: usize = 1024;
 const MOST_STORE: usize = 32768;
 
 // What check 1 asks of the lengths of a table and of a store.
+#[tactic(auto, unfolding(crate::specs::Table::lengths_fit))]
 pub fn lengths_fit(table_len: usize, store_len: usize) -> bool
     ensures { result ≡ lengths_fit table_len store_len }
 {
-    if table_len % ENTRY != 0 {
-        return false;
-    }
-    if MOST_ENTRIES * ENTRY < table_len {
-        return false;
-    }
-    store_len <= MOST_STORE
+    table_len % ENTRY == 0 && table_len <= MOST_ENTRIES * ENTRY && store_len <= MOST_STORE
 }
