@@ -1,6 +1,9 @@
-// What a guest does with one frame (01, "One frame, one reply"): its meaning, in specs/, and the laws about it. No function: the code stands in judge, answers,
-// writes and device, over this type.
+// What a guest does with one frame (01, "One frame, one reply"): its meaning, in specs/, and the laws about it. No function but what a refusal says of itself:
+// the code stands in judge, answers, writes and device, over these types.
 #![tactic(auto)]
+
+ghost use Rattle.std.specs.Prelude.{◌≡◌};
+ghost use Rattle.guest.specs.Checks.{number_of, frames_of};
 
 // The data bytes of every fragment but the last (01, "Served Read" and "Served fragment").
 pub const FRAGMENT_BYTES: u8 = 4;
@@ -17,14 +20,43 @@ pub const READ_ONLY_VARIABLE: u8 = 2;
 
 pub const ILLEGAL_DLC: u8 = 9;
 
-// What a frame in long form that checks 1 to 6 let pass asks for, decided by checks 7 to 12 and no state.
+// The thirteen refusals, each named after its check (specs/Checks.antt) and with its number. "The number 13 is not used again" (02, 2026-05).
+#[derive(Clone, Copy, PartialEq, Eq)]
+pub enum Refusal {
+    Misfit = 1,
+    IllFormed = 2,
+    Barred = 3,
+    NotForUs = 4,
+    NoService = 5,
+    NotRequest = 6,
+    ActionOrEvent = 7,
+    BadShape = 8,
+    Unknown = 9,
+    NoAccess = 10,
+    WrongLength = 11,
+    WrongPiece = 12,
+    OutOfOrder = 14,
+}
+
+impl Refusal {
+    // The number of the reply.
+    pub fn number(self) -> u8
+        ensures { result ≡ number_of self }
+    {
+        self as u8
+    }
+
+    // How many frames are put: 1 to 6 put none, the others one error frame.
+    pub fn frames(self) -> u8
+        ensures { result ≡ frames_of self }
+    {
+        if self.number() <= 6 { 0 } else { 1 }
+    }
+}
+
+// What a frame in long form that checks 1 to 12 let pass asks for. No state decides it.
 #[derive(Clone, Copy)]
 pub enum Plan {
-    // Refused with 7 to 12: one error frame.
-    Error {
-        number: u8,
-        object: u8,
-    },
     Read(table::Attribute),
     Write {
         to: table::Attribute,
