@@ -1,4 +1,5 @@
 -- The five useless devices (01, "What the guarantees have to determine"): each is shut out by the demand that 01 names, whatever else it does.
+use Rattle.std.proofs.Common.{Option, Some, None}
 use Prim.Native.Nat.{ℕ, suc}
 use mathlib.Core.Path.{◌≡◌, refl, sym, ap, ◌∙◌}
 use mathlib.Core.Logic.{◌≢◌}
@@ -17,9 +18,8 @@ use Rattle.codec.specs.declared.Answer.{Answer}
 use Rattle.codec.specs.declared.Answer.TheVariants.{Got, Refused}
 use Rattle.codec.specs.Fields.{header_of}
 use Rattle.codec.specs.Reading.{read_of}
-use Rattle.table.specs.declared.Found.{Found}
-use Rattle.table.specs.declared.Found.TheVariants.{At, Nothing}
 use Rattle.join.specs.History.{chain, gather, message}
+use Rattle.table.specs.declared.Attribute.{Attribute}
 use Rattle.guest.specs.Step.{Areas, areas, Call, Outcome, outcome, outcome_of}
 use Rattle.guest.specs.History.{shown}
 use Rattle.demands.specs.Demand1.{Device, checks_of}
@@ -43,9 +43,9 @@ unfolding computing
 unrefused = (none_holds (checks_of at_p1) refl).0 refl
 
 -- what a search finds and a frame says, by its places
-offset_of : Found → ℕ
-offset_of (At a) = a.offset
-offset_of Nothing = 0
+offset_of : Option Attribute → ℕ
+offset_of (Some a) = a.offset
+offset_of None = 0
 
 plain_bytes : Answer → List ℕ
 plain_bytes (Got (Short dir address service)) = []

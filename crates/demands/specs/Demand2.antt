@@ -3,7 +3,7 @@
 -- The layout is said by the definitions of `codec` (000's figures) and `table` (001, section 5), and what is promised of them alone stands in
 -- proofs/Demand2. Here stands what is promised of any device: that a frame which no check refuses is served as 01 says, that the count is tied to the
 -- frames put, and that an error frame says why.
-use Rattle.std.specs.Prelude.{ℕ, ◌*◌, ◌≤◌, ◌≡◌, ◌≢◌, Bool, true, false, cond, List, [], ◌∷◌, length, get_or, take, drop}
+use Rattle.std.specs.Prelude.{ℕ, ◌*◌, ◌≤◌, ◌≡◌, ◌≢◌, Bool, true, false, cond, List, [], ◌∷◌, length, get_or, take, drop, Some}
 use Rattle.laws.specs.Checks.{holds_at}
 use Rattle.octets.specs.declared.Data.{Data}
 use Rattle.octets.specs.Data.{data_of, bytes_of}
@@ -15,7 +15,6 @@ use Rattle.codec.specs.Fields.{header_of}
 use Rattle.codec.specs.Reading.{read_of}
 use Rattle.codec.specs.Writing.{image_of}
 use Rattle.table.specs.declared.Attribute.{Attribute}
-use Rattle.table.specs.declared.Found.TheVariants.{At}
 use Rattle.table.specs.Table.{writable, find, first_network, single_boolean, part_of}
 use Rattle.join.specs.Work.{Joined, lost}
 use Rattle.join.specs.History.{Shaped}
@@ -39,7 +38,7 @@ pub record Sent (c : Call) (o : Outcome) : Type 0 where
 
 -- the attribute of the table that a call's frame names
 abbrev pub Names : Call → Attribute → Type 0
-Names c a = find c.table (header_of c.frame).object (header_of c.frame).id ≡ At a
+Names c a = find c.table (header_of c.frame).object (header_of c.frame).id ≡ Some a
 
 -- what an effect leaves of a call
 abbrev pub left_by : Effect → Call → Outcome
@@ -87,7 +86,7 @@ pub record ServedShort (c : Call) (o : Outcome) : Type 0 where
   pub attribute : Attribute
   pub on : Bool
   pub says : read_of c.frame ≡ Got (Short 0 c.own (cond on write_on write_off))
-  pub first : first_network c.table 0 ≡ At attribute
+  pub first : first_network c.table 0 ≡ Some attribute
   pub single : single_boolean attribute ≡ true
   pub may : writable attribute ≡ true
   pub takes : get_or o.left.store attribute.offset 0 ≡ cond on 1 0
