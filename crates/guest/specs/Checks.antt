@@ -145,6 +145,23 @@ number_of WrongLength = 11
 number_of WrongPiece = 12
 number_of OutOfOrder = 14
 
+-- the refusal of a number, if one has it
+unfoldable pub refusal_of : ℕ → Option Refusal
+refusal_of n =
+    cond (eqb n 1) (Some Misfit)
+    (cond (eqb n 2) (Some IllFormed)
+    (cond (eqb n 3) (Some Barred)
+    (cond (eqb n 4) (Some NotForUs)
+    (cond (eqb n 5) (Some NoService)
+    (cond (eqb n 6) (Some NotRequest)
+    (cond (eqb n 7) (Some ActionOrEvent)
+    (cond (eqb n 8) (Some BadShape)
+    (cond (eqb n 9) (Some Unknown)
+    (cond (eqb n 10) (Some NoAccess)
+    (cond (eqb n 11) (Some WrongLength)
+    (cond (eqb n 12) (Some WrongPiece)
+    (cond (eqb n 14) (Some OutOfOrder) None))))))))))))
+
 -- "Refusals 7 to 14 put one frame"
 abbrev pub frames_of : Refusal → ℕ
 frames_of e = cond (leb (number_of e) 6) 0 1

@@ -3,7 +3,7 @@
 #![tactic(auto)]
 
 ghost use Rattle.std.specs.Prelude.{◌≡◌};
-ghost use Rattle.guest.specs.Checks.{number_of, frames_of};
+ghost use Rattle.guest.specs.Checks.{number_of, refusal_of, frames_of};
 
 // The data bytes of every fragment but the last (01, "Served Read" and "Served fragment").
 pub const FRAGMENT_BYTES: u8 = 4;
@@ -44,6 +44,29 @@ impl Refusal {
         ensures { result ≡ number_of self }
     {
         self as u8
+    }
+
+    // The refusal of a number, if one has it. It is 32 bits wide, so that C's 263 is not taken for 7.
+    #[tactic(auto, unfolding(crate::specs::Checks::refusal_of))]
+    pub fn of_number(number: u32) -> Option<Refusal>
+        ensures { result ≡ refusal_of number }
+    {
+        match number {
+            1 => Some(Refusal::Misfit),
+            2 => Some(Refusal::IllFormed),
+            3 => Some(Refusal::Barred),
+            4 => Some(Refusal::NotForUs),
+            5 => Some(Refusal::NoService),
+            6 => Some(Refusal::NotRequest),
+            7 => Some(Refusal::ActionOrEvent),
+            8 => Some(Refusal::BadShape),
+            9 => Some(Refusal::Unknown),
+            10 => Some(Refusal::NoAccess),
+            11 => Some(Refusal::WrongLength),
+            12 => Some(Refusal::WrongPiece),
+            14 => Some(Refusal::OutOfOrder),
+            _ => None,
+        }
     }
 
     // How many frames are put: 1 to 6 put none, the others one error frame.
