@@ -1,12 +1,10 @@
 -- The checks in the groups in which the code decides them, and what it makes of a Request.
-use Rattle.std.specs.Prelude.{ℕ, cond, not, ◌&&◌, ◌||◌, List, [], ◌∷◌, ◌++◌, eqb}
+use Rattle.std.specs.Prelude.{ℕ, cond, not, ◌&&◌, ◌||◌, List, [], ◌∷◌, ◌++◌, eqb, Result, Ok, Err}
 use Rattle.laws.specs.Checks.{Check, first_of, only_where}
 use Rattle.octets.specs.declared.Data.{Data}
 use Rattle.codec.specs.declared.Header.{Header}
 use Rattle.codec.specs.declared.Message.{Message}
 use Rattle.codec.specs.declared.Message.TheVariants.{Short, Plain, Fragment}
-use Rattle.codec.specs.declared.Answer.{Answer}
-use Rattle.codec.specs.declared.Answer.TheVariants.{Got, Refused}
 use Rattle.codec.specs.Names.{read_service}
 use Rattle.codec.specs.Fields.{header_of}
 use Rattle.codec.specs.Reading.{barred, unserved, message_of, read_of}
@@ -83,9 +81,9 @@ write_plan object m Nothing = Error 9 object
 write_plan object m (At a) = cond (writable a) (body_plan object a m) (Error 10 object)
 
 -- 8 to 12 of a Write: what the codec refuses has the flag, and neither number nor total
-abbrev pub answered : ℕ → Found → Answer → Plan
-answered object found (Refused n) = Error 8 object
-answered object found (Got m) = write_plan object m found
+abbrev pub answered : ℕ → Found → Result Message ℕ → Plan
+answered object found (Err n) = Error 8 object
+answered object found (Ok m) = write_plan object m found
 
 -- what the code's search finds for a header
 abbrev pub sought_by : List ℕ → Header → Found

@@ -2,7 +2,7 @@
 ghost use Rattle.std.specs.Prelude.{◌≡◌};
 ghost use Rattle.judge.specs.Code.{sought_by, piece_plan, body_plan, write_plan, read_plan, plan_by_service};
 
-use codec::{Answer, Header, Message};
+use codec::{Header, Message};
 use guest::Plan;
 use octets::Data;
 use table::{Attribute, Found};
@@ -97,7 +97,7 @@ pub fn request_plan(table: &[u8], h: Header, frame: &[u8]) -> Plan
     if h.service == codec::READ_SERVICE {
         return read_plan(table, h);
     }
-    let Answer::Got(m) = codec::read(frame) else {
+    let Ok(m) = codec::read(frame) else {
         // The codec gives no message of a fragment without number and total; of the rest that it refuses, checks 3 and 5 left nothing.
         return Plan::Error { number: 8, object };
     };
