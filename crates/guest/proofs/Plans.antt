@@ -16,8 +16,7 @@ use Rattle.octets.specs.declared.Data.{Data}
 use Rattle.octets.specs.Data.{bytes_of, tidy}
 use Rattle.octets.proofs.Datas.{bytes_length, tidy_more}
 use Rattle.codec.specs.declared.Header.{Header}
-use Rattle.codec.specs.declared.Answer.{Answer}
-use Rattle.codec.specs.declared.Answer.TheVariants.{Got}
+use Rattle.std.specs.Prelude.{Result, Ok}
 use Rattle.codec.specs.declared.Subject.{Subject}
 use Rattle.codec.specs.declared.Message.{Message}
 use Rattle.codec.specs.declared.Message.TheVariants.{Short, Plain, Fragment}
@@ -109,7 +108,7 @@ pub record Unrefused (s : Setting) (r : List ℕ) : Type 0 where
   pub long : in_short (header_of r) ≡ false
   pub sizes : Accepted s r
   pub well : well_formed s.table s.store_len ≡ true
-  pub read : read_of r ≡ Got (message_of r)
+  pub read : read_of r ≡ Ok (message_of r)
   pub frame : Passed (header_of r)
   pub known : unknown (sought_in s.table (header_of r)) ≡ false
   pub length_fits : wrong_length (header_of r) (message_of r) (sought_in s.table (header_of r)) ≡ false
@@ -289,12 +288,12 @@ sound s r =
 -- ---- what a frame that passes checks 1 to 12 is served as
 
 pub data ServedBy (s : Setting) (r : List ℕ) : Type 0 where
-  by_switch : (a : Attribute) → read_of r ≡ Got (short_of (header_of r)) → ForSwitch s (header_of r) a
+  by_switch : (a : Attribute) → read_of r ≡ Ok (short_of (header_of r)) → ForSwitch s (header_of r) a
       → judged_of s r ≡ switches a (state_of (header_of r)) → ServedBy s r
   by_read : (a : Attribute) → (header_of r).service ≡ read_service → Its s (header_of r) a → judged_of s r ≡ asks (Read a) → ServedBy s r
-  by_write : (a : Attribute) (u : Subject) (b : Data) → (header_of r).service ≡ write_service → read_of r ≡ Got (Plain u b)
+  by_write : (a : Attribute) (u : Subject) (b : Data) → (header_of r).service ≡ write_service → read_of r ≡ Ok (Plain u b)
       → ForWrite s (header_of r) a b → judged_of s r ≡ asks (Write a b) → ServedBy s r
-  by_join : (a : Attribute) (u : Subject) (number total : ℕ) (b : Data) → (header_of r).service ≡ write_service → read_of r ≡ Got (Fragment u number total b)
+  by_join : (a : Attribute) (u : Subject) (number total : ℕ) (b : Data) → (header_of r).service ≡ write_service → read_of r ≡ Ok (Fragment u number total b)
       → ForJoin s (header_of r) a number total b → judged_of s r ≡ asks (Join a number total b) → ServedBy s r
 
 judged_passing : (s : Setting) (r : List ℕ) → first_of (plan_checks s r) ≡ 0 → (f : Option Attribute) → sought_in s.table (header_of r) ≡ f
@@ -320,8 +319,8 @@ served_short s r l e = found (sought_in s.table (header_of r)) refl
     zero : (header_of r).dlc ≡ 0
     zero = eqb-true (header_of r).dlc 0 l
 
-    says : read_of r ≡ Got (short_of (header_of r))
-    says = got r (accepted s r (none 1)).ten (short_passes (header_of r) (none 3) zero) ∙ ap {B = Answer} Got (message_short r zero)
+    says : read_of r ≡ Ok (short_of (header_of r))
+    says = got r (accepted s r (none 1)).ten (short_passes (header_of r) (none 3) zero) ∙ ap {B = Result Message ℕ} Ok (message_short r zero)
 
     found : (f : Option Attribute) → sought_in s.table (header_of r) ≡ f → ServedBy s r
     found None q = absurd (short_found s r l e q)
@@ -356,11 +355,11 @@ served_long s r l e = found (sought_in s.table (header_of r)) refl
         (λ f.
         let m = message_fragment r long (eqb-true h.flag 1 f) in
         let p = plan (Some a) q ∙ simp (t, m) in
-        by_join a _ _ _ _ w (u.read ∙ ap {B = Answer} Got m) (is_sound _ p) p)
+        by_join a _ _ _ _ w (u.read ∙ ap {B = Result Message ℕ} Ok m) (is_sound _ p) p)
         (λ f.
         let m = message_plain r long (eqb-false h.flag 1 f) in
         let p = plan (Some a) q ∙ simp (t, m) in
-        by_write a _ _ w (u.read ∙ ap {B = Answer} Got m) (is_sound _ p) p))
+        by_write a _ _ w (u.read ∙ ap {B = Result Message ℕ} Ok m) (is_sound _ p) p))
 
 pub served_by : (s : Setting) (r : List ℕ) → first_of (plan_checks s r) ≡ 0 → ServedBy s r
 served_by s r e = split (in_short (header_of r)) (λ l. served_short s r l e) (λ l. served_long s r l e)

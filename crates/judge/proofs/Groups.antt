@@ -16,8 +16,7 @@ use Rattle.octets.specs.Data.{data_of}
 use Rattle.codec.specs.declared.Header.{Header}
 use Rattle.codec.specs.declared.Message.{Message}
 use Rattle.codec.specs.declared.Message.TheVariants.{Short, Plain, Fragment}
-use Rattle.codec.specs.declared.Answer.{Answer}
-use Rattle.codec.specs.declared.Answer.TheVariants.{Got, Refused}
+use Rattle.std.specs.Prelude.{Result, Ok, Err}
 use Rattle.codec.specs.Names.{write_service, read_service}
 use Rattle.codec.specs.Fields.{header_of}
 use Rattle.codec.specs.Reading.{barred, unserved, subject_of, payload_of, message_of, read_of, number_of}
@@ -234,7 +233,7 @@ module _ (table r : List ℕ) (ordered : Ordered table) (l : in_short (header_of
     no_action = le-ltb 5 (header_of r).service (omega arith)
 
     -- a Write that the codec refuses is of the shape that check 8 refuses
-    refused_request : (k : ℕ) → length r ≡ 10 → read_of r ≡ Refused k → judged_in (header_of r) (Err BadShape) ≡ request_plan table r
+    refused_request : (k : ℕ) → length r ≡ 10 → read_of r ≡ Err k → judged_in (header_of r) (Err BadShape) ≡ request_plan table r
     refused_request k n f =
         split (bad_shape (header_of r))
         (λ t. simp (no_action, t))
@@ -244,7 +243,7 @@ module _ (table r : List ℕ) (ordered : Ordered table) (l : in_short (header_of
         absurd (omega arith))
 
     -- and of one that it reads, checks 9 to 12 are left
-    write_request : (m : Message) → read_of r ≡ Got m
+    write_request : (m : Message) → read_of r ≡ Ok m
         → (is_long m ≡ true)
         × (plan_by (first_of (attribute_checks (header_of r) m (sought_in table (header_of r)))) (header_of r).object (served (header_of r) m (sought_in table (header_of r))) ≡ request_plan table r)
     unfolding holds_at
@@ -279,10 +278,10 @@ module _ (table r : List ℕ) (ordered : Ordered table) (l : in_short (header_of
           → plan_by_service table (header_of r) r ≡ answered (sought_in table (header_of r)) (read_of r)
       of_write t q = rw found_so (simp (t, q))
 
-      by_answer : (header_of r).service ≡ write_service → (a : Answer) → read_of r ≡ a
+      by_answer : (header_of r).service ≡ write_service → (a : Result Message ℕ) → read_of r ≡ a
           → judged_in (header_of r) (answered (sought_in table (header_of r)) a) ≡ request_plan table r
-      by_answer e (Refused k) p = refused_request e k n p
-      by_answer e (Got m) p =
+      by_answer e (Err k) p = refused_request e k n p
+      by_answer e (Ok m) p =
           let w = write_request e m p in
           write_as_checks (header_of r) e m w.0 (sought_in table (header_of r)) ∙ w.1
 

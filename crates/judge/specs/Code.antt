@@ -5,8 +5,6 @@ use Rattle.octets.specs.declared.Data.{Data}
 use Rattle.codec.specs.declared.Header.{Header}
 use Rattle.codec.specs.declared.Message.{Message}
 use Rattle.codec.specs.declared.Message.TheVariants.{Short, Plain, Fragment}
-use Rattle.codec.specs.declared.Answer.{Answer}
-use Rattle.codec.specs.declared.Answer.TheVariants.{Got, Refused}
 use Rattle.codec.specs.Names.{read_service}
 use Rattle.codec.specs.Fields.{header_of}
 use Rattle.codec.specs.Reading.{barred, unserved, message_of, read_of}
@@ -88,9 +86,9 @@ write_plan m None = Err Unknown
 write_plan m (Some a) = cond (writable a) (body_plan a m) (Err NoAccess)
 
 -- 8 to 12 of a Write: what the codec refuses has the flag, and neither number nor total
-abbrev pub answered : Option Attribute → Answer → Result Plan Refusal
-answered found (Refused n) = Err BadShape
-answered found (Got m) = write_plan m found
+abbrev pub answered : Option Attribute → Result Message ℕ → Result Plan Refusal
+answered found (Err n) = Err BadShape
+answered found (Ok m) = write_plan m found
 
 -- what the code's search finds for a header
 abbrev pub sought_by : List ℕ → Header → Option Attribute

@@ -2,7 +2,7 @@
 ghost use Rattle.std.specs.Prelude.{◌≡◌};
 ghost use Rattle.judge.specs.Code.{sought_by, piece_plan, body_plan, write_plan, read_plan, plan_by_service};
 
-use codec::{Answer, Header, Message};
+use codec::{Header, Message};
 use guest::{Plan, Refusal};
 use octets::Data;
 use table::Attribute;
@@ -92,7 +92,7 @@ pub fn request_plan(table: &[u8], h: Header, frame: &[u8]) -> Result<Plan, Refus
     if h.service == codec::READ_SERVICE {
         return read_plan(table, h);
     }
-    let Answer::Got(m) = codec::read(frame) else {
+    let Ok(m) = codec::read(frame) else {
         // The codec gives no message of a fragment without number and total; of the rest that it refuses, checks 3 and 5 left nothing.
         return Err(Refusal::BadShape);
     };
