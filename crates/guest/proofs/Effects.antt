@@ -26,7 +26,7 @@ use Rattle.guest.specs.Step.{served, served_write, Judged, quiet, errs, switches
 use Rattle.guest.proofs.Plans.{Sound, SoundJudged, sound}
 
 -- the number of what is refused is in its range
-abbrev InRange : Judged → Type 0
+abbrev pub InRange : Judged → Type 0
 InRange (quiet n) = (1 ≤ n) × (n ≤ 6)
 InRange (errs n object) = (7 ≤ n) × (n ≤ 12)
 InRange (switches a state) = Unit {0}
@@ -48,7 +48,7 @@ passing_in_range h m f = split (in_short h) (λ l. simp l (go f)) (λ l. simp l 
     go None = omega arith
     go (Some a) = tt
 
-in_range : (s : Setting) (r : List ℕ) → InRange (judged_of s r)
+pub in_range : (s : Setting) (r : List ℕ) → InRange (judged_of s r)
 unfolding judged_of
 in_range s r =
     let n = first_of (plan_checks s r) in
