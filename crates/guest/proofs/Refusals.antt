@@ -1,6 +1,7 @@
 -- A refusal is known by its number.
-use Prim.Native.Nat.{ℕ}
+use Prim.Native.Nat.{ℕ, ◌≤◌}
 use mathlib.Core.Path.{◌≡◌, refl, sym, ap, ◌∙◌}
+use native.Mathlib.Omega.{arith}
 use lib.Dec.{eqb}
 use borrow.Author.Tests.{eqb-true}
 use Rattle.laws.proofs.Tests.{split}
@@ -64,3 +65,19 @@ coded n =
     split (eqb n 12) (λ t. rw (eqb-true n 12 t)) (λ l.
     split (eqb n 14) (λ t. rw (eqb-true n 14 t)) (λ m.
     simp (a, b, c, d, e, f, g, h, i, j, k, l, m))))))))))))))
+
+-- no refusal has the number 0, which is that of no refusal
+pub numbered : (e : Refusal) → 1 ≤ number_of e
+numbered Misfit = omega arith
+numbered IllFormed = omega arith
+numbered Barred = omega arith
+numbered NotForUs = omega arith
+numbered NoService = omega arith
+numbered NotRequest = omega arith
+numbered ActionOrEvent = omega arith
+numbered BadShape = omega arith
+numbered Unknown = omega arith
+numbered NoAccess = omega arith
+numbered WrongLength = omega arith
+numbered WrongPiece = omega arith
+numbered OutOfOrder = omega arith
