@@ -1,17 +1,18 @@
 // Answer frames, at the front of the output.
-ghost use Rattle.std.specs.Prelude.{◌≡◌, true, [], ◌∷◌, ◌+◌, ◌*◌, ◌≤◌, length};
+ghost use Rattle.std.specs.Prelude.{◌≡◌, true, ◌∷◌, [], ◌+◌, ◌*◌, ◌≤◌, length};
 ghost use Rattle.laws.specs.Put.{put};
 ghost use Rattle.octets.specs.Data.{data_of, tidy};
 ghost use Rattle.codec.specs.Names.{frame_size, most_fragment_data};
 ghost use Rattle.codec.specs.Writing.{image_of, subject_fits};
 ghost use Rattle.codec.specs.Code.{long_places};
 ghost use Rattle.codec.specs.declared.Message.TheVariants.{Fragment};
-ghost use Rattle.guest.specs.Checks.{least_out, fragment_bytes};
+ghost use Rattle.guest.specs.Checks.{least_out, fragment_bytes, number_of};
 ghost use Rattle.guest.specs.Errors.{code_of};
 ghost use Rattle.guest.specs.Step.{answering, acknowledge_of, fragment_frame, fragment_frames, fragment_count, read_frames, sent};
 ghost use Rattle.answers.specs.Code.{Answerable, answerable, single, refused_with, acknowledged_with, short_acknowledged, PieceReady, part_count, part_sent};
 
 use codec::{ERRONEOUS, FRAME_SIZE, Header, SUCCESSFUL, Subject};
+use guest::Refusal;
 use octets::Data;
 
 // The most bytes that one frame carries, and the bytes of a full fragment, to be compared with lengths.
@@ -19,18 +20,36 @@ const MOST_DATA: usize = octets::MOST as usize;
 
 const FRAGMENT_BYTES: usize = guest::FRAGMENT_BYTES as usize;
 
-// From our address, with the request's service, object and ID.
-fn answering(own: u8, h: Header, response: u8) -> Subject
-    ensures { result ≡ answering own h response }
+// The code of a refusal, as the table of codes has it (02, 2026-06); 0 of those that put no error frame. 14 says its own number.
+#[tactic(auto, unfolding(guest::specs::Errors::code_of))]
+fn code(refusal: Refusal) -> u8
+    ensures { result ≡ code_of (number_of refusal) }
 {
-    Subject {
-        dir: 1,
-        address: own,
-        service: h.service,
-        response,
-        object: h.object,
-        id: h.id,
+    match refusal {
+        Refusal::ActionOrEvent => guest::ILLEGAL_SERVICE_PARAMETERS,
+        Refusal::BadShape => guest::ILLEGAL_DLC,
+        Refusal::Unknown => guest::ILLEGAL_SERVICE_PARAMETERS,
+        Refusal::NoAccess => guest::READ_ONLY_VARIABLE,
+        Refusal::WrongLength => guest::ILLEGAL_DLC,
+        Refusal::WrongPiece => guest::ILLEGAL_DLC,
+        Refusal::OutOfOrder => refusal.number(),
+        _ => 0,
     }
+}
+
+// Why a frame is refused, as its error frame says it, by the refusal's number: 0 where it has no entry.
+#[tactic(auto, using(guest::proofs::Refusals::coded))]
+pub fn code_of(number: u32) -> u8
+    ensures { result ≡ code_of number }
+{
+    Refusal::of_number(number).map_or(0, code)
+}
+
+// The data of an error frame: one byte.
+fn reason(refusal: Refusal) -> Data
+    ensures { result ≡ data_of (code_of (number_of refusal) ∷ []) }
+{
+    octets::data_from(&[code(refusal)])
 }
 
 // The place of frame n: 2 and 8 times n, by shifts in two widths, as `join::place_of` and for its reason.
@@ -41,6 +60,7 @@ fn frame_place(n: u8) -> usize
 }
 
 // Frame n of the reply.
+#[tactic(auto, using(crate::proofs::Sending::put_there))]
 fn send(about: Subject, flag: u8, payload: Data, n: u8, out: &mut [u8])
     requires { n * frame_size + frame_size ≤ length out.old }
     ensures { out.new ≡ put out.old (n * frame_size) (long_places about flag payload) }
@@ -48,74 +68,6 @@ fn send(about: Subject, flag: u8, payload: Data, n: u8, out: &mut [u8])
     let at = frame_place(n);
     let end = at + FRAME_SIZE;
     codec::put_long(about, flag, payload, &mut out[at..end]);
-}
-
-// One frame, flag clear. Nothing is tested but that it has room.
-fn send_single(own: u8, h: Header, response: u8, body: Data, out: &mut [u8])
-    ensures { out.new ≡ single own h response body out.old }
-{
-    if out.len() < FRAME_SIZE {
-        return;
-    }
-    send(answering(own, h, response), 0, body, 0, out);
-}
-
-// Why a frame is refused, as its error frame says it (02, 2026-06): the table's code for this refusal, 0 where it has no entry. A number is 32 bits wide, so
-// that C's 263 is not taken for 7.
-pub fn code_of(number: u32) -> u8
-    ensures { result ≡ code_of number }
-{
-    match number {
-        7 => guest::ILLEGAL_SERVICE_PARAMETERS,
-        8 => guest::ILLEGAL_DLC,
-        9 => guest::ILLEGAL_SERVICE_PARAMETERS,
-        10 => guest::READ_ONLY_VARIABLE,
-        11 => guest::ILLEGAL_DLC,
-        12 => guest::ILLEGAL_DLC,
-        14 => 14,
-        _ => 0,
-    }
-}
-
-// The data of an error frame: one byte.
-fn reason(number: u8) -> Data
-    ensures { result ≡ data_of (code_of number ∷ []) }
-{
-    octets::data_from(&[code_of(number as u32)])
-}
-
-// "Refusals 7 to 14 put one frame: Error, flag clear" (13 is gone: 02, 2026-05), with "DLC 3 and one data byte" (02, 2026-06).
-pub fn refuse(own: u8, h: Header, number: u8, out: &mut [u8])
-    ensures { out.new ≡ refused_with own h number out.old }
-{
-    send_single(own, h, ERRONEOUS, reason(number), out);
-}
-
-// A Write that is done: "one Successful frame, flag clear, DLC 2".
-pub fn acknowledge(own: u8, h: Header, out: &mut [u8])
-    ensures { out.new ≡ acknowledged_with own h out.old }
-{
-    send_single(own, h, SUCCESSFUL, octets::no_data(), out);
-}
-
-// The short acknowledge of a short Write (000, figure 3.4).
-fn acknowledge_of(h: Header) -> u8
-    ensures { result ≡ acknowledge_of h }
-{
-    if h.service == codec::WRITE_ON {
-        return codec::WRITE_ON_ACK;
-    }
-    codec::WRITE_OFF_ACK
-}
-
-// A short Write that is done, in the form in which it came (02, 2026-01).
-pub fn acknowledge_short(own: u8, h: Header, out: &mut [u8])
-    ensures { out.new ≡ short_acknowledged own h out.old }
-{
-    if out.len() < FRAME_SIZE {
-        return;
-    }
-    codec::put_short(1, own, acknowledge_of(h), &mut out[0..FRAME_SIZE]);
 }
 
 // Fragment n of a reply of so many bytes, with its data.
@@ -160,58 +112,119 @@ fn send_fragments(about: Subject, part: &[u8], count: usize, out: &mut [u8])
     ensures { out.new ≡ sent (fragment_frames about part.now count) out.old }
 {
     let full = part.len() / FRAGMENT_BYTES;
-    let mut n = 0;
-    while n < full {
+    for n in 0..full {
         send_full(about, part, n, out);
-        n += 1;
     }
-    if n < count {
-        send_rest(about, part, n, out);
+    if full < count {
+        send_rest(about, part, full, out);
     }
 }
 
-// The frames of a Read, cut from the attribute's part of the store; how many they are.
-fn send_fitting(own: u8, h: Header, part: &[u8], out: &mut [u8]) -> u8
-    requires { Answerable own h (length out.old) × (length part.now ≤ 255) }
-    ensures { (result ≡ length (read_frames own h part.now)) × (out.new ≡ sent (read_frames own h part.now) out.old) }
-{
-    if part.len() <= MOST_DATA {
-        send_single(own, h, SUCCESSFUL, octets::data_from(part), out);
-        return 1;
-    }
-    let count = (part.len() + 3) / FRAGMENT_BYTES;
-    send_fragments(answering(own, h, SUCCESSFUL), part, count, out);
-    count as u8
+// A frame that is answered: the address that it came to, which is ours, and its header.
+#[derive(Clone, Copy)]
+pub struct Request {
+    pub own: u8,
+    pub h: Header,
 }
 
-// Whether a frame carries this address, service and object, and the output has room for the most frames of a reply.
-fn answerable(own: u8, h: Header, out: usize) -> bool
-    ensures { result ≡ answerable own h out }
-{
-    if codec::MOST_ADDRESS < own {
-        return false;
+impl Request {
+    // From our address, with the request's service, object and ID.
+    fn answering(self, response: u8) -> Subject
+        ensures { result ≡ answering self.own self.h response }
+    {
+        Subject {
+            dir: 1,
+            address: self.own,
+            service: self.h.service,
+            response,
+            object: self.h.object,
+            id: self.h.id,
+        }
     }
-    if h.service < codec::LOWEST_LONG {
-        return false;
-    }
-    if 7 < h.service {
-        return false;
-    }
-    if 31 < h.object {
-        return false;
-    }
-    guest::LEAST_OUT <= out
-}
 
-// The frames of a Read, and how many they are: none where they do not fit.
-pub fn send_part(own: u8, h: Header, part: &[u8], out: &mut [u8]) -> u8
-    ensures { (result ≡ part_count own h part.now out.old) × (out.new ≡ part_sent own h part.now out.old) }
-{
-    if 255 < part.len() {
-        return 0;
+    // One frame, flag clear. Nothing is tested but that it has room.
+    #[tactic(auto, unfolding(crate::specs::Code::single))]
+    fn send_single(self, response: u8, body: Data, out: &mut [u8])
+        ensures { out.new ≡ single self.own self.h response body out.old }
+    {
+        if out.len() < FRAME_SIZE {
+            return;
+        }
+        send(self.answering(response), 0, body, 0, out);
     }
-    if answerable(own, h, out.len()) {
-        return send_fitting(own, h, part, out);
+
+    // "Refusals 7 to 14 put one frame: Error, flag clear" (13 is gone: 02, 2026-05), with "DLC 3 and one data byte" (02, 2026-06).
+    pub fn refuse(self, refusal: Refusal, out: &mut [u8])
+        ensures { out.new ≡ refused_with self.own self.h (number_of refusal) out.old }
+    {
+        self.send_single(ERRONEOUS, reason(refusal), out);
     }
-    0
+
+    // A Write that is done: "one Successful frame, flag clear, DLC 2".
+    pub fn acknowledge(self, out: &mut [u8])
+        ensures { out.new ≡ acknowledged_with self.own self.h out.old }
+    {
+        self.send_single(SUCCESSFUL, octets::no_data(), out);
+    }
+
+    // The short acknowledge of a short Write (000, figure 3.4).
+    fn acknowledge_of(self) -> u8
+        ensures { result ≡ acknowledge_of self.h }
+    {
+        if self.h.service == codec::WRITE_ON {
+            codec::WRITE_ON_ACK
+        } else {
+            codec::WRITE_OFF_ACK
+        }
+    }
+
+    // A short Write that is done, in the form in which it came (02, 2026-01).
+    #[tactic(auto, using(crate::proofs::Sending::put_short_there), unfolding(crate::specs::Code::short_acknowledged))]
+    pub fn acknowledge_short(self, out: &mut [u8])
+        ensures { out.new ≡ short_acknowledged self.own self.h out.old }
+    {
+        if out.len() < FRAME_SIZE {
+            return;
+        }
+        codec::put_short(1, self.own, self.acknowledge_of(), &mut out[..FRAME_SIZE]);
+    }
+
+    // The frames of a Read, cut from the attribute's part of the store; how many they are.
+    fn send_fitting(self, part: &[u8], out: &mut [u8]) -> u8
+        requires { Answerable self.own self.h (length out.old) × (length part.now ≤ 255) }
+        ensures { (result ≡ length (read_frames self.own self.h part.now)) × (out.new ≡ sent (read_frames self.own self.h part.now) out.old) }
+    {
+        if part.len() <= MOST_DATA {
+            self.send_single(SUCCESSFUL, octets::data_from(part), out);
+            return 1;
+        }
+        let count = (part.len() + 3) / FRAGMENT_BYTES;
+        send_fragments(self.answering(SUCCESSFUL), part, count, out);
+        count as u8
+    }
+
+    // Whether a frame carries this address, service and object, and the output has room for the most frames of a reply.
+    #[tactic(auto, unfolding(crate::specs::Code::answerable))]
+    fn answerable(self, out: usize) -> bool
+        ensures { result ≡ answerable self.own self.h out }
+    {
+        self.own <= codec::MOST_ADDRESS
+            && codec::LOWEST_LONG <= self.h.service
+            && self.h.service <= 7
+            && self.h.object <= 31
+            && guest::LEAST_OUT <= out
+    }
+
+    // The frames of a Read, and how many they are: none where they do not fit.
+    pub fn send_part(self, part: &[u8], out: &mut [u8]) -> u8
+        ensures { (result ≡ part_count self.own self.h part.now out.old) × (out.new ≡ part_sent self.own self.h part.now out.old) }
+    {
+        if 255 < part.len() {
+            return 0;
+        }
+        if self.answerable(out.len()) {
+            return self.send_fitting(part, out);
+        }
+        0
+    }
 }

@@ -3,4 +3,4 @@
 
 mod answering;
 
-pub use answering::{acknowledge, acknowledge_short, code_of, refuse, send_part};
+pub use answering::{Request, code_of};

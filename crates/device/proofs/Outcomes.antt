@@ -1,5 +1,5 @@
 -- What carrying out a plan leaves, from what each part of it leaves; and so a call.
-use Rattle.std.proofs.Common.{Option, Some, None}
+use Rattle.std.proofs.Common.{Option, Some, None, Result, Ok, Err}
 use Prim.Native.Nat.{ℕ, ◌+◌, ◌<◌, ◌≤◌}
 use mathlib.Core.Path.{◌≡◌, refl, ap, sym, subst, ◌∙◌}
 use mathlib.Core.Bool.{Bool, true, false, cond, not}
@@ -7,8 +7,9 @@ use mathlib.Core.List.{List, [], ◌∷◌}
 use native.Mathlib.Omega.{arith}
 use lib.ListN.{length}
 use lib.Dec.{ltb}
-use borrow.Author.Tests.{lt-ltb, eq-eqb, ne_eqb, not-true, not-false}
+use borrow.Author.Tests.{lt-ltb, eq-eqb, ne_eqb, lt-leb, le-leb}
 use Rattle.laws.specs.Checks.{first_of}
+use Rattle.laws.proofs.Checks.{first_most}
 use Rattle.laws.proofs.Put.{put_nothing}
 use Rattle.octets.specs.declared.Data.{Data}
 use Rattle.octets.specs.Data.{bytes_of}
@@ -22,20 +23,22 @@ use Rattle.join.specs.Work.{record_size, base, load, astray, last, Joined, kept,
 use Rattle.join.proofs.Places.{base_inside}
 use Rattle.join.proofs.Parts.{astray_any, held_part}
 use Rattle.guest.specs.declared.Plan.{Plan}
-use Rattle.guest.specs.declared.Plan.TheVariants.{Error, Read, Write, Join}
-use Rattle.guest.specs.Checks.{misfit, ill_formed, in_short, joiner, piece_of}
-use Rattle.guest.specs.Step.{asks, state_of, judged_of, join_effect, joined_in, areas, perform, reply_to, Call, setting_of, Outcome, outcome, outcome_of, step_of}
+use Rattle.guest.specs.declared.Plan.TheVariants.{Read, Write, Join}
+use Rattle.guest.specs.declared.Refusal.{Refusal}
+use Rattle.guest.specs.Checks.{misfit, ill_formed, in_short, joiner, piece_of, number_of, frames_of}
+use Rattle.guest.specs.Step.{errs, asks, state_of, judged_of, join_effect, joined_in, areas, perform, reply_to, Call, setting_of, Outcome, outcome, outcome_in, number_in, outcome_of, step_of}
 use Rattle.guest.proofs.Plans.{accepted}
-use Rattle.guest.proofs.Effects.{ignored, refused_only, refused_dropping}
+use Rattle.guest.proofs.Effects.{InRange, in_range, ignored, refused_only, refused_dropping}
+use Rattle.guest.proofs.Refusals.{numbered}
 use Rattle.guest.proofs.Frames.{part_most}
-use Rattle.judge.specs.Code.{quiet_checks, route_checks, point_for, plan_by_service}
+use Rattle.judge.specs.Code.{quiet_checks, route_checks, point_for, judged_in, plan_by_service}
 use Rattle.judge.proofs.Groups.{quiet_judged, point_found, routed_first, long_routed, short_routed, request_planned}
 use Rattle.answers.specs.Code.{Answerable, refused_with, acknowledged_with, short_acknowledged, part_count, part_sent}
 use Rattle.answers.proofs.Sending.{refused, acknowledged, short_acknowledged_lem, part_count_lem, part_sent_lem}
 use Rattle.writes.specs.Code.{JoinReady, joined_bytes, stored_data, stored_state, stored_joined, kept_piece}
 use Rattle.writes.proofs.Storing.{data_stored, state_stored, message_stored, piece_kept}
 use Rattle.device.specs.Code.{Ready, carried_out, SwitchReady, switched_out}
-use Rattle.device.proofs.Ready.{ready}
+use Rattle.device.proofs.Ready.{passed_answerable, ready}
 
 -- ---- a fragment, by what the code's tests find
 
@@ -92,11 +95,6 @@ module _ (p : Plan) (own : ℕ) (h : Header) (store work out : List ℕ) (r : Re
   pub ready_as : (q : Plan) → p ≡ q → Ready q own h (length store) (length work) (length out)
   ready_as q e = subst (λ (k : Plan). Ready k own h (length store) (length work) (length out)) e r
 
-  pub error_outcome : (number object : ℕ) → p ≡ Error number object → (o : List ℕ) → o ≡ refused_with own h number out
-      → outcome number 1 (areas store work) o ≡ carried_out p own h (areas store work) out
-  error_outcome number object e o s =
-      rw (e, s, refused own h out (ready_as (Error number object) e) number) (sym (refused_only own h (areas store work) out number))
-
   pub read_outcome : (a : Attribute) → p ≡ Read a → (count : ℕ) (o : List ℕ)
       → (count ≡ part_count own h (part_of a store) out) × (o ≡ part_sent own h (part_of a store) out)
       → outcome 0 count (areas store work) o ≡ carried_out p own h (areas store work) out
@@ -146,50 +144,77 @@ module _ (c : Call) where
     misfit_outcome t = quiet_outcome 1 (simp (sym me ∙ t)) (λ q. omega (arith, q))
 
     module _ (fits : m ≡ false) (w : Bool) (we : w ≡ well_formed c.table (length c.given.store)) where
-      pub ill_formed_outcome : not w ≡ true → outcome 2 0 c.given c.out ≡ step_of c
-      ill_formed_outcome t = quiet_outcome 2 (simp (sym me ∙ fits, sym we ∙ not-true w t)) (λ q. omega (arith, q))
+      pub ill_formed_outcome : w ≡ false → outcome 2 0 c.given c.out ≡ step_of c
+      ill_formed_outcome t = quiet_outcome 2 (simp (sym me ∙ fits, sym we ∙ t)) (λ q. omega (arith, q))
 
-      module _ (good : not w ≡ false) where
+      module _ (good : w ≡ true) where
         fitting : misfit (setting_of c) c.frame ≡ false
         fitting = sym me ∙ fits
 
         formed : ill_formed (setting_of c) ≡ false
-        formed = ap not (sym we) ∙ good
+        formed = ap not (sym we ∙ good)
 
         pub own_byte : c.own ≤ most_address
         own_byte = (accepted (setting_of c) c.frame fitting).own
 
         pub switch_ready : SwitchReady c.own c.table (length c.given.store) (length c.out)
-        switch_ready = record { address = own_byte; well = not-false _ formed; room = (accepted (setting_of c) c.frame fitting).out }
+        switch_ready = record { address = own_byte; well = sym we ∙ good; room = (accepted (setting_of c) c.frame fitting).out }
 
-        module _ (h : Header) (he : h ≡ header_of c.frame) (n : ℕ) (ne : n ≡ first_of (route_checks c.own h)) where
-          routed : n ≡ first_of (route_checks c.own (header_of c.frame))
-          routed = rw he at ne
+        module _ (h : Header) (he : h ≡ header_of c.frame) (r : Result (Unit {0}) Refusal) (re : number_in r ≡ first_of (route_checks c.own h)) where
+          routed : number_in r ≡ first_of (route_checks c.own (header_of c.frame))
+          routed = rw he at re
 
-          pub unrouted_outcome : (n ≡ 0 → ⊥) → outcome n 0 c.given c.out ≡ step_of c
-          unrouted_outcome z = quiet_outcome n (routed ∙ sym (routed_first (setting_of c) c.frame fitting formed (λ q. z (routed ∙ q)))) z
+          pub unrouted_outcome : (e : Refusal) → r ≡ Err e → outcome_in (Err e) c.given c.out ≡ step_of c
+          unrouted_outcome e q =
+              let n : number_of e ≡ first_of (route_checks c.own (header_of c.frame)) = ap number_in (sym q) ∙ routed in
+              let most = first_most 6 (route_checks c.own (header_of c.frame)) refl in
+              let z : number_of e ≡ 0 → ⊥ = λ k. omega (arith, numbered e, k) in
+              let none : frames_of e ≡ 0 = simp (le-leb (number_of e) 6 (omega (arith, n, most))) in
+              ap (λ (k : ℕ). outcome (number_of e) k c.given c.out) none
+              ∙ quiet_outcome (number_of e) (n ∙ sym (routed_first (setting_of c) c.frame fitting formed (λ k. z (n ∙ k)))) z
 
-          module _ (z : n ≡ 0) where
+          module _ (z : r ≡ Ok tt) where
+            zero : first_of (route_checks c.own (header_of c.frame)) ≡ 0
+            zero = sym routed ∙ ap number_in z
+
             pub short_outcome : h.dlc ≡ 0 → (o : Outcome) → o ≡ switched_out c.table c.own h c.given c.out → o ≡ step_of c
             unfolding step_of
             short_outcome q o f =
                 let l = eq-eqb (header_of c.frame).dlc 0 (rw he at q) in
-                let judged = short_routed (setting_of c) c.frame fitting formed l (sym routed ∙ z) (point_for c.table (header_of c.frame)) refl in
+                let judged = short_routed (setting_of c) c.frame fitting formed l zero (point_for c.table (header_of c.frame)) refl in
                 f ∙ rw (he, judged)
 
-            module _ (q : h.dlc ≡ 0 → ⊥) (p : Plan) (pe : p ≡ plan_by_service c.table h c.frame) where
+            module _ (q : h.dlc ≡ 0 → ⊥) (p : Result Plan Refusal) (pe : p ≡ plan_by_service c.table h c.frame) where
               long : in_short (header_of c.frame) ≡ false
               long = ne_eqb (header_of c.frame).dlc 0 (λ e. q (ap (λ (k : Header). k.dlc) he ∙ e))
 
               passes : first_of (quiet_checks (setting_of c) c.frame) ≡ 0
-              passes = long_routed (setting_of c) c.frame fitting formed long (sym routed ∙ z)
+              passes = long_routed (setting_of c) c.frame fitting formed long zero
 
-              asked : judged_of (setting_of c) c.frame ≡ asks p
+              asked : judged_of (setting_of c) c.frame ≡ judged_in h p
               asked = request_planned (setting_of c) c.frame long passes h he p pe
 
-              pub step_ready : Ready p c.own h (length c.given.store) (length c.given.work) (length c.out)
-              step_ready = rw he (ready (setting_of c) c.frame long passes p asked)
-
-              pub step_outcome : (o : Outcome) → o ≡ carried_out p c.own h c.given c.out → o ≡ step_of c
+              -- refused with 7 to 12
+              pub error_outcome : (e : Refusal) → p ≡ Err e → (o : List ℕ) → o ≡ refused_with c.own h (number_of e) c.out
+                  → outcome_in (Err e) c.given o ≡ step_of c
               unfolding step_of
-              step_outcome o f = f ∙ rw (asked, he)
+              error_outcome e k o s =
+                  let judged : judged_of (setting_of c) c.frame ≡ errs (number_of e) h.object = asked ∙ ap (judged_in h) k in
+                  let seven = (subst InRange judged (in_range (setting_of c) c.frame)).0 in
+                  let one : frames_of e ≡ 1 = simp (lt-leb (number_of e) 6 (omega (arith, seven))) in
+                  let able : Answerable c.own h (length c.out) = rw he (passed_answerable (setting_of c) c.frame long passes) in
+                  ap (λ (n : ℕ). outcome (number_of e) n c.given o) one
+                  ∙ ap (outcome (number_of e) 1 c.given) (s ∙ refused c.own h c.out able (number_of e))
+                  ∙ sym (refused_only c.own h c.given c.out (number_of e))
+                  ∙ rw (judged, he)
+
+              module _ (k : Plan) (e : p ≡ Ok k) where
+                asks_it : judged_of (setting_of c) c.frame ≡ asks k
+                asks_it = asked ∙ ap (judged_in h) e
+
+                pub step_ready : Ready k c.own h (length c.given.store) (length c.given.work) (length c.out)
+                step_ready = rw he (ready (setting_of c) c.frame long passes k asks_it)
+
+                pub step_outcome : (o : Outcome) → o ≡ carried_out k c.own h c.given c.out → o ≡ step_of c
+                unfolding step_of
+                step_outcome o f = f ∙ rw (asks_it, he)

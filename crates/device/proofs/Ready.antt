@@ -14,7 +14,7 @@ use Rattle.codec.specs.Fields.{header_of}
 use Rattle.codec.specs.Reading.{unserved}
 use Rattle.codec.proofs.Headers.{ranged, long_served}
 use Rattle.guest.specs.declared.Plan.{Plan}
-use Rattle.guest.specs.declared.Plan.TheVariants.{Error, Read, Write, Join}
+use Rattle.guest.specs.declared.Plan.TheVariants.{Read, Write, Join}
 use Rattle.guest.specs.Checks.{Setting, misfit, in_short}
 use Rattle.guest.specs.Step.{asks, judged_of}
 use Rattle.guest.proofs.Plans.{accepted, Sound, SoundJudged, sound}
@@ -37,7 +37,6 @@ answerable s r m l n =
     }
 
 sound_ready : (s : Setting) (h : Header) (p : Plan) → Answerable s.own h s.out_len → Sound s h p → Ready p s.own h s.store_len s.work_len s.out_len
-sound_ready s h (Error n o) w z = w
 sound_ready s h (Read a) w z = (w, z.place.fits.short)
 sound_ready s h (Write a b) w z = (
   w,
@@ -57,10 +56,13 @@ sound_ready s h (Join a number total b) w z =
     } in
     (w, (keep, z.its.place.inside))
 
--- checks 1 to 6 let a frame in long form pass to its plan
-pub ready : (s : Setting) (r : List ℕ) → in_short (header_of r) ≡ false → first_of (quiet_checks s r) ≡ 0 → (p : Plan) → judged_of s r ≡ asks p
-    → Ready p s.own (header_of r) s.store_len s.work_len s.out_len
-unfolding holds_at
-ready s r l e p j =
-    let none = (none_holds (quiet_checks s r) refl).0 e in
-    sound_ready s (header_of r) p (answerable s r (none 1) l ((neither (unserved (header_of r)) _).0 (none 5)).0) (subst (SoundJudged s (header_of r)) j (sound s r))
+-- checks 1 to 6 let a frame in long form pass to its plan, or to its error frame
+module _ (s : Setting) (r : List ℕ) (l : in_short (header_of r) ≡ false) (e : first_of (quiet_checks s r) ≡ 0) where
+  pub passed_answerable : Answerable s.own (header_of r) s.out_len
+  unfolding holds_at
+  passed_answerable =
+      let none = (none_holds (quiet_checks s r) refl).0 e in
+      answerable s r (none 1) l ((neither (unserved (header_of r)) _).0 (none 5)).0
+
+  pub ready : (p : Plan) → judged_of s r ≡ asks p → Ready p s.own (header_of r) s.store_len s.work_len s.out_len
+  ready p j = sound_ready s (header_of r) p passed_answerable (subst (SoundJudged s (header_of r)) j (sound s r))

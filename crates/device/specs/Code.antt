@@ -4,7 +4,7 @@ use Rattle.codec.specs.declared.Header.{Header}
 use Rattle.codec.specs.Names.{most_address}
 use Rattle.table.specs.Table.{well_formed}
 use Rattle.guest.specs.declared.Plan.{Plan}
-use Rattle.guest.specs.declared.Plan.TheVariants.{Error, Read, Write, Join}
+use Rattle.guest.specs.declared.Plan.TheVariants.{Read, Write, Join}
 use Rattle.guest.specs.Checks.{least_out}
 use Rattle.guest.specs.Step.{switched, plan_effect, effect_of, joined_in, Areas, Outcome, outcome_of}
 use Rattle.judge.specs.Code.{point_for}
@@ -13,7 +13,6 @@ use Rattle.writes.specs.Code.{WriteReady, JoinReady}
 
 -- what a plan needs of the lengths of store, work area and output: every plan that the checks let through has it
 abbrev pub Ready : Plan → ℕ → Header → ℕ → ℕ → ℕ → Type 0
-Ready (Error n object) own h store work out = Answerable own h out
 Ready (Read a) own h store work out = Answerable own h out × (a.len ≤ 255)
 Ready (Write a b) own h store work out = Answerable own h out × WriteReady a b store
 Ready (Join a number total b) own h store work out = Answerable own h out × JoinReady a number total b store work

@@ -1,101 +1,89 @@
 // A plan carried out: all that alters the lent areas is done from here, by writes, join and answers.
 ghost use Rattle.std.specs.Prelude.{◌≡◌, length};
-ghost use Rattle.table.specs.Table.{part_of};
-ghost use Rattle.answers.specs.Code.{Answerable, part_count, part_sent};
+ghost use Rattle.answers.specs.Code.{Answerable};
 ghost use Rattle.writes.specs.Code.{JoinReady};
-ghost use Rattle.guest.specs.Step.{areas, outcome};
+ghost use Rattle.guest.specs.declared.Plan.TheVariants.{Join};
+ghost use Rattle.guest.specs.Step.{areas, outcome_in};
 ghost use Rattle.device.specs.Code.{Ready, carried_out};
 
-use crate::Reply;
-use codec::Header;
-use guest::Plan;
+use answers::Request;
+use guest::{Plan, Refusal};
 use octets::Data;
 use table::Attribute;
 
-// The frames of a Read, cut from the attribute's part of the store; how many they are.
-fn show(own: u8, h: Header, a: Attribute, store: &[u8], out: &mut [u8]) -> u8
-    ensures { (result ≡ part_count own h (part_of a store.now) out.old)
-        × (out.new ≡ part_sent own h (part_of a store.now) out.old) }
-{
-    answers::send_part(own, h, table::part(a, store), out)
+// A fragment of a Write: its number, the total, and its data.
+#[derive(Clone, Copy)]
+struct Part {
+    number: u8,
+    total: u8,
+    body: Data,
 }
 
 // A fragment of a Write: out of order, the last, or kept.
 fn apply_join(
-    own: u8,
-    h: Header,
     to: Attribute,
-    number: u8,
-    total: u8,
-    body: Data,
+    part: Part,
+    request: Request,
     store: &mut [u8],
     work: &mut [u8],
     out: &mut [u8],
-) -> Reply
-    requires { Answerable own h (length out.old) × JoinReady to number total body (length store.old) (length work.old) }
-    ensures { outcome result.number result.count (areas store.new work.new) out.new
-        ≡ carried_out (Plan.Join to number total body) own h (areas store.old work.old) out.old }
+) -> Result<u8, Refusal>
+    requires { Answerable request.own request.h (length out.old) × JoinReady to part.number part.total part.body (length store.old) (length work.old) }
+    ensures { outcome_in result (areas store.new work.new) out.new
+        ≡ carried_out (Join to part.number part.total part.body) request.own request.h (areas store.old work.old) out.old }
 {
+    let Part {
+        number,
+        total,
+        body,
+    } = part;
     let at = join::place_of(to.object);
     if join::is_astray(work, at, guest::FRAGMENT_BYTES, to.id, total, number) {
         join::clear(work, at);
-        answers::refuse(own, h, 14, out);
-        return Reply {
-            number: 14,
-            count: 1,
-        };
+        request.refuse(Refusal::OutOfOrder, out);
+        return Err(Refusal::OutOfOrder);
     }
     if join::is_last(guest::FRAGMENT_BYTES, total, number) {
         writes::store_joined(to, number, body, work, store);
         join::clear(work, at);
-        answers::acknowledge(own, h, out);
-        return Reply {
-            number: 0,
-            count: 1,
-        };
+        request.acknowledge(out);
+        return Ok(1);
     }
     writes::keep_piece(to, number, total, body, work);
-    Reply {
-        number: 0,
-        count: 0,
-    }
+    Ok(0)
 }
 
 // What is done and answered.
 pub(crate) fn apply(
     plan: Plan,
-    own: u8,
-    h: Header,
+    request: Request,
     store: &mut [u8],
     work: &mut [u8],
     out: &mut [u8],
-) -> Reply
-    requires { Ready plan own h (length store.old) (length work.old) (length out.old) }
-    ensures { outcome result.number result.count (areas store.new work.new) out.new
-        ≡ carried_out plan own h (areas store.old work.old) out.old }
+) -> Result<u8, Refusal>
+    requires { Ready plan request.own request.h (length store.old) (length work.old) (length out.old) }
+    ensures { outcome_in result (areas store.new work.new) out.new
+        ≡ carried_out plan request.own request.h (areas store.old work.old) out.old }
 {
     match plan {
-        Plan::Error { number, object: _ } => {
-            answers::refuse(own, h, number, out);
-            Reply { number, count: 1 }
-        }
-        Plan::Read(a) => {
-            let count = show(own, h, a, store, out);
-            Reply { number: 0, count }
-        }
+        Plan::Read(a) => Ok(request.send_part(table::part(a, store), out)),
         Plan::Write { to, body } => {
             writes::store_data(to, body, store);
-            answers::acknowledge(own, h, out);
-            Reply {
-                number: 0,
-                count: 1,
-            }
+            request.acknowledge(out);
+            Ok(1)
         }
         Plan::Join {
             to,
             number,
             total,
             body,
-        } => apply_join(own, h, to, number, total, body, store, work, out),
+        } => {
+            let part = Part {
+                number,
+                total,
+                body,
+            };
+            apply_join(to, part, request, store, work, out)
+        }
     }
 }

@@ -20,28 +20,23 @@ use Rattle.codec.specs.Reading.{message_of}
 use Rattle.join.specs.Work.{Piece, Joined, kept, done, lost, base, dropped}
 use Rattle.table.specs.declared.Attribute.{Attribute}
 use Rattle.guest.specs.declared.Plan.{Plan}
-use Rattle.guest.specs.declared.Plan.TheVariants.{Error, Read, Write, Join}
+use Rattle.guest.specs.declared.Plan.TheVariants.{Read, Write, Join}
 use Rattle.guest.specs.Checks.{Setting, in_short, piece_of, sought_in, plan_checks}
-use Rattle.guest.specs.Step.{served, served_write, Judged, quiet, switches, asks, switched, passing, judged_of, ignore, refuse, join_effect, plan_effect, effect_of, joined_in, Areas, areas, perform, error_frame, reply_to, effect_in, answer, sent, outcome, outcome_of}
+use Rattle.guest.specs.Step.{served, served_write, Judged, quiet, errs, switches, asks, switched, passing, judged_of, ignore, refuse, join_effect, plan_effect, effect_of, joined_in, Areas, areas, perform, error_frame, reply_to, effect_in, answer, sent, outcome, outcome_of}
 use Rattle.guest.proofs.Plans.{Sound, SoundJudged, sound}
 
 -- the number of what is refused is in its range
-abbrev PlanInRange : Plan → Type 0
-PlanInRange (Error n object) = (7 ≤ n) × (n ≤ 12)
-PlanInRange (Read a) = Unit {0}
-PlanInRange (Write a b) = Unit {0}
-PlanInRange (Join a number total b) = Unit {0}
-
-abbrev InRange : Judged → Type 0
+abbrev pub InRange : Judged → Type 0
 InRange (quiet n) = (1 ≤ n) × (n ≤ 6)
+InRange (errs n object) = (7 ≤ n) × (n ≤ 12)
 InRange (switches a state) = Unit {0}
-InRange (asks p) = PlanInRange p
+InRange (asks p) = Unit {0}
 
-served_in_range : (h : Header) (m : Message) (f : Option Attribute) → PlanInRange (served h m f)
+served_in_range : (h : Header) (m : Message) (f : Option Attribute) → InRange (served h m f)
 served_in_range h m None = omega arith
 served_in_range h m (Some a) = split (eqb h.service read_service) (λ t. simp t tt) (λ t. simp t (go m))
   where
-    go : (m : Message) → PlanInRange (served_write a m)
+    go : (m : Message) → InRange (served_write a m)
     go (Short d q v) = omega arith
     go (Plain u b) = tt
     go (Fragment u number total b) = tt
@@ -53,7 +48,7 @@ passing_in_range h m f = split (in_short h) (λ l. simp l (go f)) (λ l. simp l 
     go None = omega arith
     go (Some a) = tt
 
-in_range : (s : Setting) (r : List ℕ) → InRange (judged_of s r)
+pub in_range : (s : Setting) (r : List ℕ) → InRange (judged_of s r)
 unfolding judged_of
 in_range s r =
     let n = first_of (plan_checks s r) in
@@ -75,12 +70,11 @@ pub kind : (s : Setting) (r : List ℕ) (x : Areas) → Kind s r x (answer s r x
 unfolding reply_to
 kind s r x = go (judged_of s r) refl (in_range s r) (sound s r)
   where
-    plan : (p : Plan) → judged_of s r ≡ asks p → PlanInRange p → Sound s (header_of r) p
+    plan : (p : Plan) → judged_of s r ≡ asks p → Sound s (header_of r) p
         → Kind s r x (reply_to s.own (header_of r) (plan_effect (joined_in x.work) p) x.store).number
-    plan (Error n o) e i z = error i.0 i.1 (rw e)
-    plan (Read a) e i z = fine refl
-    plan (Write a b) e i z = fine refl
-    plan (Join a number total b) e i z = by (joined_in x.work a k) refl
+    plan (Read a) e z = fine refl
+    plan (Write a b) e z = fine refl
+    plan (Join a number total b) e z = by (joined_in x.work a k) refl
       where
         k : Piece
         k = piece_of a.id number total b
@@ -93,8 +87,9 @@ kind s r x = go (judged_of s r) refl (in_range s r) (sound s r)
     go : (p : Judged) → judged_of s r ≡ p → InRange p → SoundJudged s (header_of r) p
         → Kind s r x (reply_to s.own (header_of r) (effect_of (joined_in x.work) p) x.store).number
     go (quiet n) e i z = mute i.0 i.1 (rw e)
+    go (errs n o) e i z = error i.0 i.1 (rw e)
     go (switches a state) e i z = fine refl
-    go (asks p) e i z = plan p e i z
+    go (asks p) e i z = plan p e z
 
 -- ---- what the refusing effects leave
 

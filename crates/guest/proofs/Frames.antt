@@ -26,10 +26,10 @@ use Rattle.codec.proofs.Trips.{written_read, short_carried, plain_carried, fragm
 use Rattle.table.specs.declared.Attribute.{Attribute}
 use Rattle.table.specs.Table.{end_of, part_of}
 use Rattle.join.specs.Work.{Piece, Joined, kept, done, lost}
-use Rattle.guest.specs.declared.Plan.TheVariants.{Error, Read, Write, Join}
+use Rattle.guest.specs.declared.Plan.TheVariants.{Read, Write, Join}
 use Rattle.guest.specs.Checks.{Setting, piece_of}
 use Rattle.guest.specs.Errors.{code_of}
-use Rattle.guest.specs.Step.{Judged, quiet, switches, asks, judged_of, Form, plain, fragmented, short, Effect, ignore, refuse, show, write, keep, join_effect, effect_of, joined_in, Areas, answering, error_frame, success_frame, acknowledge_of, short_frame, done_frame, fragment_part, fragment_frame, fragment_frames, fragment_count, read_frames, reply_to, effect_in, answer, flat}
+use Rattle.guest.specs.Step.{Judged, quiet, errs, switches, asks, judged_of, Form, plain, fragmented, short, Effect, ignore, refuse, show, write, keep, join_effect, effect_of, joined_in, Areas, answering, error_frame, success_frame, acknowledge_of, short_frame, done_frame, fragment_part, fragment_frame, fragment_frames, fragment_count, read_frames, reply_to, effect_in, answer, flat}
 use Rattle.guest.specs.Frames.{Tens, data_of_answer, data_of_frames}
 use Rattle.guest.proofs.Plans.{SoundJudged, sound}
 
@@ -134,8 +134,8 @@ reply_count s r x = effect_count s.own (header_of r) (effect_in s r x) x.store (
 
     go : (p : Judged) → SoundJudged s (header_of r) p → Bounded (effect_of (joined_in x.work) p)
     go (quiet n) z = tt
+    go (errs n o) z = tt
     go (switches a state) z = tt
-    go (asks (Error n o)) z = tt
     go (asks (Read a)) z = z.place.fits.short
     go (asks (Write a b)) z = tt
     go (asks (Join a number total b)) z = join a (piece_of a.id number total b) (joined_in x.work a (piece_of a.id number total b))

@@ -7,3 +7,5 @@ pub mod Effects
 pub mod Frames
 pub mod Mixed
 pub mod Shown
+pub mod Refusals
+pub mod Determined

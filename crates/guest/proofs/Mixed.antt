@@ -20,9 +20,9 @@ use Rattle.join.specs.History.{Fit}
 use Rattle.join.proofs.Places.{base_inside, in_record}
 use Rattle.join.proofs.Records.{area_length, area_outside, area_both, dropped_length, dropped_outside, dropped_both, load_same, held_size, AsLong, joined_length}
 use Rattle.guest.specs.declared.Plan.{Plan}
-use Rattle.guest.specs.declared.Plan.TheVariants.{Error, Read, Write, Join}
+use Rattle.guest.specs.declared.Plan.TheVariants.{Read, Write, Join}
 use Rattle.guest.specs.Checks.{Setting, joiner, piece_of}
-use Rattle.guest.specs.Step.{Judged, quiet, switches, asks, judged_of, plan_owner, owner, plain, fragmented, short, Effect, ignore, refuse, show, write, keep, join_effect, plan_effect, effect_of, joined_in, Areas, store_after, work_after, perform, read_frames, Reply, reply, reply_to, next, answer, owner_of}
+use Rattle.guest.specs.Step.{Judged, quiet, errs, switches, asks, judged_of, plan_owner, owner, plain, fragmented, short, Effect, ignore, refuse, show, write, keep, join_effect, plan_effect, effect_of, joined_in, Areas, store_after, work_after, perform, read_frames, Reply, reply, reply_to, next, answer, owner_of}
 use Rattle.guest.specs.Belongs.{InPart, InRecord, Same, Good}
 use Rattle.guest.proofs.Plans.{Its, Sound, SoundJudged, sound}
 
@@ -185,7 +185,6 @@ module _ (s : Setting) where
 
   within : (h : Header) (p : Plan) → Sound s h p → (x : Areas) → Good s x → Within s (plan_owner p) (plan_effect (joined_in x.work) p)
   unfolding joined_in
-  within h (Error n q) z x g = tt
   within h (Read a) z x g = owned a z.place z.area
   within h (Write a b) z x g = (owned a z.its.place z.its.area, z.whole)
   within h (Join a number total b) z x g =
@@ -197,7 +196,6 @@ module _ (s : Setting) where
   effect_same : (h : Header) (p : Plan) → Sound s h p → (x y : Areas) → Good s x → Good s y → Same s.table (plan_owner p) x y
       → plan_effect (joined_in x.work) p ≡ plan_effect (joined_in y.work) p
   unfolding joined_in
-  effect_same h (Error n q) z x y gx gy e = refl
   effect_same h (Read a) z x y gx gy e = refl
   effect_same h (Write a b) z x y gx gy e = refl
   effect_same h (Join a number total b) z x y gx gy e =
@@ -207,7 +205,6 @@ module _ (s : Setting) where
       (load_same joiner (base a.object) (InRecord a.object) (in_record a.object) x.work y.work (record_of_lem h a z.its x gx) (record_of_lem h a z.its y gy) e.work))
 
   plan_below : (h : Header) (p : Plan) → Sound s h p → plan_owner p ≤ 31
-  plan_below h (Error n q) z = z
   plan_below h (Read a) z = z.place.fits.object
   plan_below h (Write a b) z = z.its.place.fits.object
   plan_below h (Join a number total b) z = z.its.place.fits.object
@@ -217,11 +214,13 @@ module _ (s : Setting) where
   -- the owner of a frame that has one
   abbrev keeper : Judged → ℕ
   keeper (quiet n) = 0
+  keeper (errs n object) = object
   keeper (switches a state) = a.object
   keeper (asks p) = plan_owner p
 
   keeper_is : (j : Judged) (o : ℕ) → owner j ≡ some o → keeper j ≡ o
   keeper_is (quiet n) o m = let q : ◌≡◌ {A = ℕ} 0 1 = cc in absurd (omega arith)
+  keeper_is (errs n object) o m = cc
   keeper_is (switches a state) o m = cc
   keeper_is (asks p) o m = cc
 
@@ -234,17 +233,20 @@ module _ (s : Setting) where
   module _ (h : Header) where
     judged_within : (j : Judged) → SoundJudged s h j → (x : Areas) → Good s x → Within s (keeper j) (effect_of (joined_in x.work) j)
     judged_within (quiet n) z x g = tt
+    judged_within (errs n object) z x g = tt
     judged_within (switches a state) z x g = (owned a z.place z.area, sym z.one)
     judged_within (asks p) z x g = within h p z x g
 
     judged_same : (j : Judged) → SoundJudged s h j → (x y : Areas) → Good s x → Good s y → Same s.table (keeper j) x y
         → effect_of (joined_in x.work) j ≡ effect_of (joined_in y.work) j
     judged_same (quiet n) z x y gx gy e = refl
+    judged_same (errs n object) z x y gx gy e = refl
     judged_same (switches a state) z x y gx gy e = refl
     judged_same (asks p) z x y gx gy e = effect_same h p z x y gx gy e
 
     judged_below : (j : Judged) → SoundJudged s h j → keeper j ≤ 31
     judged_below (quiet n) z = omega arith
+    judged_below (errs n object) z = z
     judged_below (switches a state) z = z.place.fits.object
     judged_below (asks p) z = plan_below h p z
 
@@ -257,6 +259,7 @@ module _ (s : Setting) where
     others_after : (j : Judged) → SoundJudged s h j → (o : ℕ) → owner j ≢ some o → (x : Areas) → Good s x → Same s.table o (after j x) x
     unfolding perform
     others_after (quiet n) z o ne x g = same_refl s.table o x
+    others_after (errs n object) z o ne x g = same_refl s.table o x
     others_after (switches a state) z o ne x g = elsewhere (switches a state) z o (λ e. ne (ap {B = Option ℕ} some (sym e))) x g
     others_after (asks p) z o ne x g = elsewhere (asks p) z o (λ e. ne (ap {B = Option ℕ} some (sym e))) x g
 
@@ -275,6 +278,7 @@ module _ (s : Setting) where
     free_said : (j : Judged) → owner j ≡ none → (x y : Areas) → said h j x ≡ said h j y
     unfolding reply_to
     free_said (quiet n) m x y = refl
+    free_said (errs n object) m x y = let q : ◌≡◌ {A = ℕ} 0 1 = cc in absurd (omega arith)
     free_said (switches a state) m x y = let q : ◌≡◌ {A = ℕ} 0 1 = cc in absurd (omega arith)
     free_said (asks p) m x y = let q : ◌≡◌ {A = ℕ} 0 1 = cc in absurd (omega arith)
 

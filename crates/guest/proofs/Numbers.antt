@@ -33,7 +33,7 @@ join_number own h a number total b l work object id e f =
     (split (astray joiner (load joiner (base a.object) work) p) (λ t. simp t) (λ t. split (last joiner p) (λ q. simp (t, q)) (λ q. simp (t, q))))
 
 served_number : (s : Setting) (r : List ℕ) (x : Areas) → Unrefused s r → (f : Option Attribute) → sought_in s.table (header_of r) ≡ f
-    → (reply_to s.own (header_of r) (plan_effect (joined_in x.work) (served (header_of r) (message_of r) f)) x.store).number
+    → (reply_to s.own (header_of r) (effect_of (joined_in x.work) (served (header_of r) (message_of r) f)) x.store).number
     ≡ cond (out_of_order (message_of r) x.work) 14 0
 unfolding reply_to
 served_number s r x u None e = clash (ap unknown e) u.known

@@ -34,9 +34,9 @@ use Rattle.join.specs.Work.{area_size}
 use Rattle.join.specs.History as Join
 use Rattle.join.proofs.Joins.{simple_fit}
 use Rattle.guest.specs.declared.Plan.{Plan}
-use Rattle.guest.specs.declared.Plan.TheVariants.{Error, Read, Write, Join}
+use Rattle.guest.specs.declared.Plan.TheVariants.{Read, Write, Join}
 use Rattle.guest.specs.Checks.{Setting, least_out, misfit, in_short, short_write, takes_state, no_service, action_or_event, bad_shape, unknown, wrong_length, wrong_piece, fragment_bytes, joiner, piece_of, sought_in, plan_checks}
-use Rattle.guest.specs.Step.{served, served_write, Judged, quiet, switches, asks, state_of, switched, passing, judged_of}
+use Rattle.guest.specs.Step.{served, served_write, Judged, quiet, errs, switches, asks, state_of, switched, passing, judged_of}
 
 -- what check 1 leaves
 pub record Accepted (s : Setting) (r : List ℕ) : Type 0 where
@@ -159,16 +159,33 @@ pub record ForJoin (s : Setting) (h : Header) (a : Attribute) (number total : �
   pub total_len : total ≡ a.len
   pub fits : Join.Fit joiner (piece_of a.id number total b)
 
+-- what is known of the attribute that a short Write gives its state to
+pub record ForSwitch (s : Setting) (h : Header) (a : Attribute) : Type 0 where
+  pub found : first_network s.table 0 ≡ Some a
+  pub asked : short_write h ≡ true
+  pub single : single_boolean a ≡ true
+  pub may : writable a ≡ true
+  pub place : Placed (attributes s.table) s.store_len a
+  pub object : a.object ≡ 0
+  pub one : a.len ≡ 1
+  pub area : s.work_len ≡ area_size
+
 -- what is owed to each plan
 abbrev pub Sound : Setting → Header → Plan → Type 0
-Sound s h (Error n object) = object ≤ 31
 Sound s h (Read a) = Its s h a
 Sound s h (Write a b) = ForWrite s h a b
 Sound s h (Join a number total b) = ForJoin s h a number total b
 
+-- and to what is judged of a frame
+abbrev pub SoundJudged : Setting → Header → Judged → Type 0
+SoundJudged s h (quiet n) = Unit {0}
+SoundJudged s h (errs n object) = object ≤ 31
+SoundJudged s h (switches a state) = ForSwitch s h a
+SoundJudged s h (asks p) = Sound s h p
+
 sound_write : (s : Setting) (r : List ℕ) (a : Attribute) → Its s (header_of r) a → (header_of r).service ≡ write_service
     → (m : Message) → carried m ≡ true → wrong_length (header_of r) m (Some a) ≡ false → wrong_piece m ≡ false
-    → Sound s (header_of r) (served_write a m)
+    → SoundJudged s (header_of r) (served_write a m)
 unfolding carried
 sound_write s r a its w (Short d q v) c l p = its.place.fits.object
 sound_write s r a its w (Plain u b) c l p =
@@ -209,7 +226,7 @@ its_of s r u a e =
     }
 
 pub sound_served : (s : Setting) (r : List ℕ) → Unrefused s r → (f : Option Attribute) → sought_in s.table (header_of r) ≡ f
-    → Sound s (header_of r) (served (header_of r) (message_of r) f)
+    → SoundJudged s (header_of r) (served (header_of r) (message_of r) f)
 sound_served s r u None e = (ranged r).object
 sound_served s r u (Some a) e =
     let its = its_of s r u a e in
@@ -220,17 +237,6 @@ sound_served s r u (Some a) e =
     (subst (λ (f : Option Attribute). wrong_length (header_of r) (message_of r) f ≡ false) e u.length_fits) u.piece_fits))
 
 -- ---- a record in short form
-
--- what is known of the attribute that a short Write gives its state to
-pub record ForSwitch (s : Setting) (h : Header) (a : Attribute) : Type 0 where
-  pub found : first_network s.table 0 ≡ Some a
-  pub asked : short_write h ≡ true
-  pub single : single_boolean a ≡ true
-  pub may : writable a ≡ true
-  pub place : Placed (attributes s.table) s.store_len a
-  pub object : a.object ≡ 0
-  pub one : a.len ≡ 1
-  pub area : s.work_len ≡ area_size
 
 -- what check 5 leaves of a short form
 pub taken_by : (h : Header) (f : Option Attribute) → in_short h ≡ true → no_service h f ≡ false → short_write h && takes_state f ≡ true
@@ -259,12 +265,6 @@ for_switch s r q e a f =
     }
 
 -- ---- any record
-
--- what is owed to what is judged of a frame
-abbrev pub SoundJudged : Setting → Header → Judged → Type 0
-SoundJudged s h (quiet n) = Unit {0}
-SoundJudged s h (switches a state) = ForSwitch s h a
-SoundJudged s h (asks p) = Sound s h p
 
 sound_switched : (s : Setting) (r : List ℕ) → in_short (header_of r) ≡ true → first_of (plan_checks s r) ≡ 0
     → (f : Option Attribute) → sought_in s.table (header_of r) ≡ f → SoundJudged s (header_of r) (switched (header_of r) f)
@@ -338,7 +338,7 @@ served_long s r l e = found (sought_in s.table (header_of r)) refl
     long : h.dlc ≡ 0 → ⊥
     long q = omega (arith, u.frame.long)
 
-    plan : (f : Option Attribute) → sought_in s.table h ≡ f → judged_of s r ≡ asks (served h (message_of r) f)
+    plan : (f : Option Attribute) → sought_in s.table h ≡ f → judged_of s r ≡ served h (message_of r) f
     plan f q = judged_passing s r e f q ∙ simp l
 
     is_sound : (p : Plan) → judged_of s r ≡ asks p → Sound s h p

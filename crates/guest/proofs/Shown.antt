@@ -17,9 +17,9 @@ use Rattle.join.specs.History.{Fit, All}
 use Rattle.join.proofs.Places.{in_record}
 use Rattle.join.proofs.Records.{load_same, load_after, held_size, stepped}
 use Rattle.join.proofs.Joins.{after, history}
-use Rattle.guest.specs.declared.Plan.TheVariants.{Error, Read, Write, Join}
+use Rattle.guest.specs.declared.Plan.TheVariants.{Read, Write, Join}
 use Rattle.guest.specs.Checks.{Setting, joiner, piece_of}
-use Rattle.guest.specs.Step.{Judged, quiet, switches, asks, judged_of, Effect, join_effect, plan_effect, effect_of, joined_in, Areas, store_after, work_after, perform, reply_to, effect_in, next, answer, owner_of, owner}
+use Rattle.guest.specs.Step.{Judged, quiet, errs, switches, asks, judged_of, Effect, join_effect, plan_effect, effect_of, joined_in, Areas, store_after, work_after, perform, reply_to, effect_in, next, answer, owner_of, owner}
 use Rattle.guest.specs.Belongs.{InRecord, Good}
 use Rattle.guest.specs.History.{with_piece, pieces_of, joined_by, effect_by, shown, said}
 use Rattle.guest.proofs.Plans.{SoundJudged, sound, ForJoin}
@@ -50,8 +50,8 @@ module _ (s : Setting) where
     where
       go : (p : Judged) → SoundJudged s (header_of r) p → All (Fit joiner) (pieces_of s o h) → All (Fit joiner) (with_piece o p (pieces_of s o h))
       go (quiet n) z ih = ih
+      go (errs n q) z ih = ih
       go (switches a state) z ih = ih
-      go (asks (Error n q)) z ih = ih
       go (asks (Read a)) z ih = ih
       go (asks (Write a b)) z ih = ih
       go (asks (Join a number total b)) z ih = split (eqb a.object o) (λ t. simp t (z.fits, ih)) (λ t. simp t ih)
@@ -98,8 +98,8 @@ module _ (s : Setting) where
         go : (p : Judged) → judged_of s r ≡ p → SoundJudged s (header_of r) p → load joiner (base o) y.work ≡ after joiner (load joiner (base o) x.work) (pieces_of s o h)
             → load joiner (base o) (perform (effect_of (joined_in y.work) p) y).work ≡ after joiner (load joiner (base o) x.work) (with_piece o p (pieces_of s o h))
         go (quiet n) e z ih = ih
+        go (errs n q) e z ih = ih
         go (switches a state) e z ih = ih
-        go (asks (Error n q)) e z ih = ih
         go (asks (Read a)) e z ih = ih
         go (asks (Write a b)) e z ih = ih
         go (asks (Join a number total b)) e z ih =
@@ -133,8 +133,8 @@ module _ (s : Setting) where
         where
           go : (p : Judged) → SoundJudged s (header_of r) p → effect_of (joined_in (since x h).work) p ≡ effect_of (joined_by s h) p
           go (quiet n) z = refl
+          go (errs n q) z = refl
           go (switches a state) z = refl
-          go (asks (Error n q)) z = refl
           go (asks (Read a)) z = refl
           go (asks (Write a b)) z = refl
           go (asks (Join a number total b)) z = ap (join_effect a (piece_of a.id number total b)) (gives h r a number total b z)

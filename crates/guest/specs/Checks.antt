@@ -1,5 +1,5 @@
 -- The checks of a frame (01, "One frame, one reply"; 02, 2026-01, for the short form), each beside its row, in one ordered list.
-use Rattle.std.specs.Prelude.{ℕ, ◌*◌, Bool, true, false, cond, not, ◌&&◌, ◌||◌, List, [], ◌∷◌, ◌++◌, length, eqb, ltb, Option, Some, None}
+use Rattle.std.specs.Prelude.{ℕ, ◌*◌, Bool, true, false, cond, not, ◌&&◌, ◌||◌, List, [], ◌∷◌, ◌++◌, length, eqb, leb, ltb, Option, Some, None}
 use Rattle.laws.specs.Checks.{Check, only_where}
 use Rattle.octets.specs.declared.Data.{Data}
 use Rattle.octets.specs.Data.{bytes_of}
@@ -11,6 +11,8 @@ use Rattle.codec.specs.Fields.{header_of}
 use Rattle.codec.specs.Reading.{barred, unserved, message_of}
 use Rattle.table.specs.declared.Attribute.{Attribute}
 use Rattle.table.specs.Table.{lengths_fit, readable, writable, well_formed, find, first_network, single_boolean}
+use Rattle.guest.specs.declared.Refusal.{Refusal}
+use Rattle.guest.specs.declared.Refusal.TheVariants.{Misfit, IllFormed, Barred, NotForUs, NoService, NotRequest, ActionOrEvent, BadShape, Unknown, NoAccess, WrongLength, WrongPiece, OutOfOrder}
 use Rattle.join.specs.Work.{area_size, base, Joiner, simple, Piece, load, shaped_by, astray}
 
 -- what decides a call besides the frame and what the lent areas hold: own address, table, and the lengths of store, work area and output
@@ -124,6 +126,45 @@ abbrev pub out_of_order : Message → List ℕ → Bool
 out_of_order (Short dir address service) work = false
 out_of_order (Plain u b) work = false
 out_of_order (Fragment u number total b) work = astray joiner (load joiner (base u.object) work) (piece_of u.id number total b)
+
+-- ---- the table of checks
+
+-- the number of each refusal, as the code names them
+abbrev pub number_of : Refusal → ℕ
+number_of Misfit = 1
+number_of IllFormed = 2
+number_of Barred = 3
+number_of NotForUs = 4
+number_of NoService = 5
+number_of NotRequest = 6
+number_of ActionOrEvent = 7
+number_of BadShape = 8
+number_of Unknown = 9
+number_of NoAccess = 10
+number_of WrongLength = 11
+number_of WrongPiece = 12
+number_of OutOfOrder = 14
+
+-- the refusal of a number, if one has it
+unfoldable pub refusal_of : ℕ → Option Refusal
+refusal_of n =
+    cond (eqb n 1) (Some Misfit)
+    (cond (eqb n 2) (Some IllFormed)
+    (cond (eqb n 3) (Some Barred)
+    (cond (eqb n 4) (Some NotForUs)
+    (cond (eqb n 5) (Some NoService)
+    (cond (eqb n 6) (Some NotRequest)
+    (cond (eqb n 7) (Some ActionOrEvent)
+    (cond (eqb n 8) (Some BadShape)
+    (cond (eqb n 9) (Some Unknown)
+    (cond (eqb n 10) (Some NoAccess)
+    (cond (eqb n 11) (Some WrongLength)
+    (cond (eqb n 12) (Some WrongPiece)
+    (cond (eqb n 14) (Some OutOfOrder) None))))))))))))
+
+-- "Refusals 7 to 14 put one frame"
+abbrev pub frames_of : Refusal → ℕ
+frames_of e = cond (leb (number_of e) 6) 0 1
 
 -- checks 1 to 5, of every frame
 abbrev pub front_checks : Setting → List ℕ → Header → Option Attribute → List Check

@@ -4,16 +4,16 @@ use Rattle.codec.specs.Fields.{header_of}
 use Rattle.table.specs.declared.Attribute.{Attribute}
 use Rattle.join.specs.Work.{Piece, Joined, kept, done, lost, last}
 use Rattle.join.specs.History.{chain, message}
-use Rattle.guest.specs.declared.Plan.TheVariants.{Error, Read, Write, Join}
+use Rattle.guest.specs.declared.Plan.TheVariants.{Read, Write, Join}
 use Rattle.guest.specs.Checks.{Setting, joiner, piece_of}
-use Rattle.guest.specs.Step.{Judged, quiet, switches, asks, judged_of, Effect, effect_of, store_after, Reply, reply_to}
+use Rattle.guest.specs.Step.{Judged, quiet, errs, switches, asks, judged_of, Effect, effect_of, store_after, Reply, reply_to}
 
 -- "Take all fragmented Writes to one object that pass checks 1 to 12, in order" (01 has 13; 02, 2026-05, took that check out): one frame's, in front of
 -- the earlier ones
 abbrev pub with_piece : ℕ → Judged → List Piece → List Piece
 with_piece o (quiet n) h = h
+with_piece o (errs n q) h = h
 with_piece o (switches a state) h = h
-with_piece o (asks (Error n q)) h = h
 with_piece o (asks (Read a)) h = h
 with_piece o (asks (Write a b)) h = h
 with_piece o (asks (Join a number total b)) h = cond (eqb a.object o) (piece_of a.id number total b ∷ h) h

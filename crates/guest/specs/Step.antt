@@ -1,7 +1,7 @@
 -- One frame: what it asks for, what it does, what is answered (01, from "One frame, one reply" on; 02, 2026-01, for the short form, and 2026-06, for error
 -- frames).
 -- what a search finds is Rust's `Option`, here by the name `Found`, beside the one of terms, which says whose
-use Rattle.std.specs.Prelude.{ℕ, zero, suc, ◌+◌, ◌*◌, ◌/◌, cond, List, [], ◌∷◌, ◌++◌, length, take, drop, eqb, leb, Option as Found, Some, None}
+use Rattle.std.specs.Prelude.{ℕ, zero, suc, ◌+◌, ◌*◌, ◌/◌, cond, List, [], ◌∷◌, ◌++◌, length, take, drop, eqb, leb, Option as Found, Some, None, Result, Ok, Err}
 use Rattle.std.proofs.Math.Option.{Option, none, some}
 use Rattle.laws.specs.Checks.{first_of}
 use Rattle.laws.specs.Put.{put}
@@ -18,30 +18,33 @@ use Rattle.table.specs.declared.Attribute.{Attribute}
 use Rattle.table.specs.Table.{part_of}
 use Rattle.join.specs.Work.{Piece, Joined, kept, done, lost, base, load, joined, dropped, area_after}
 use Rattle.guest.specs.declared.Plan.{Plan}
-use Rattle.guest.specs.declared.Plan.TheVariants.{Error, Read, Write, Join}
-use Rattle.guest.specs.Checks.{Setting, setting_by, in_short, fragment_bytes, joiner, piece_of, sought_in, plan_checks}
+use Rattle.guest.specs.declared.Plan.TheVariants.{Read, Write, Join}
+use Rattle.guest.specs.declared.Refusal.{Refusal}
+use Rattle.guest.specs.Checks.{Setting, setting_by, in_short, fragment_bytes, joiner, piece_of, sought_in, plan_checks, number_of, frames_of}
 use Rattle.guest.specs.Errors.{code_of}
 
 -- ---- the plan: what a frame asks for, decided without state
-
--- a long form that passes checks 1 to 12 (a short message, and no record found, cannot be: check 9)
-abbrev pub served_write : Attribute → Message → Plan
-served_write a (Short dir address service) = Error 8 a.object
-served_write a (Plain u b) = Write a b
-served_write a (Fragment u number total b) = Join a number total b
-
-abbrev pub served : Header → Message → Found Attribute → Plan
-served h m None = Error 9 h.object
-served h m (Some a) = cond (eqb h.service read_service) (Read a) (served_write a m)
 
 -- what is judged of a frame
 pub data Judged : Type 0 where
   -- it is refused with this number and no frame
   quiet : ℕ → Judged
+  -- it is refused with this number and one error frame, which names this object
+  errs : ℕ → ℕ → Judged
   -- it is a short Write, which gives the attribute this state
   switches : Attribute → ℕ → Judged
   -- it is in long form and asks for something
   asks : Plan → Judged
+
+-- a long form that passes checks 1 to 12 (a short message, and no record found, cannot be: check 9)
+abbrev pub served_write : Attribute → Message → Judged
+served_write a (Short dir address service) = errs 8 a.object
+served_write a (Plain u b) = asks (Write a b)
+served_write a (Fragment u number total b) = asks (Join a number total b)
+
+abbrev pub served : Header → Message → Found Attribute → Judged
+served h m None = errs 9 h.object
+served h m (Some a) = cond (eqb h.service read_service) (asks (Read a)) (served_write a m)
 
 -- "sets the first network record of object 0 to 1 or 0" (02, 2026-01)
 abbrev pub state_of : Header → ℕ
@@ -54,11 +57,11 @@ switched h (Some a) = switches a (state_of h)
 
 -- a frame that passes checks 1 to 12
 abbrev pub passing : Header → Message → Found Attribute → Judged
-passing h m found = cond (in_short h) (switched h found) (asks (served h m found))
+passing h m found = cond (in_short h) (switched h found) (served h m found)
 
 -- refusals 1 to 6 put no frame, 7 to 12 one
 abbrev pub refused : ℕ → ℕ → Judged
-refused n object = cond (leb n 6) (quiet n) (asks (Error n object))
+refused n object = cond (leb n 6) (quiet n) (errs n object)
 
 unfoldable pub judged_of : Setting → List ℕ → Judged
 judged_of s r =
@@ -66,16 +69,16 @@ judged_of s r =
     (passing (header_of r) (message_of r) (sought_in s.table (header_of r)))
     (refused (first_of (plan_checks s r)) (header_of r).object)
 
--- whose a frame is: "Frames answered 1 to 6 belong to no object"; a short Write is its attribute's object's, which is object 0; the others are their
--- plan's
+-- whose a frame is: "Frames answered 1 to 6 belong to no object"; a short Write is its attribute's object's, which is object 0; the others are the object's
+-- that the error frame names, or their plan's
 abbrev pub plan_owner : Plan → ℕ
-plan_owner (Error n object) = object
 plan_owner (Read a) = a.object
 plan_owner (Write a b) = a.object
 plan_owner (Join a number total b) = a.object
 
 abbrev pub owner : Judged → Option ℕ
 owner (quiet n) = none
+owner (errs n object) = some object
 owner (switches a state) = some a.object
 owner (asks p) = some (plan_owner p)
 
@@ -107,13 +110,13 @@ join_effect a p lost = refuse 14 (some a.object)
 
 -- what a plan does, where `joins` is what the joiner says to a fragment for an attribute
 abbrev pub plan_effect : (Attribute → Piece → Joined) → Plan → Effect
-plan_effect joins (Error n object) = refuse n none
 plan_effect joins (Read a) = show a
 plan_effect joins (Write a b) = write a (bytes_of b) plain
 plan_effect joins (Join a number total b) = join_effect a (piece_of a.id number total b) (joins a (piece_of a.id number total b))
 
 abbrev pub effect_of : (Attribute → Piece → Joined) → Judged → Effect
 effect_of joins (quiet n) = ignore n
+effect_of joins (errs n object) = refuse n none
 effect_of joins (switches a state) = write a (state ∷ []) short
 effect_of joins (asks p) = plan_effect joins p
 
@@ -269,6 +272,18 @@ pub record Outcome : Type 0 where
 
 abbrev pub outcome : ℕ → ℕ → Areas → List ℕ → Outcome
 outcome number count left out = record { number = number; count = count; left = left; out = out }
+
+-- what the code answers, as number and count: so many frames are put, or a refusal puts its own
+abbrev pub number_in : {A : Type 0} → Result A Refusal → ℕ
+number_in (Ok x) = 0
+number_in (Err e) = number_of e
+
+abbrev pub count_in : Result ℕ Refusal → ℕ
+count_in (Ok count) = count
+count_in (Err e) = frames_of e
+
+abbrev pub outcome_in : Result ℕ Refusal → Areas → List ℕ → Outcome
+outcome_in r left out = outcome (number_in r) (count_in r) left out
 
 -- records one behind the other
 abbrev pub flat : List (List ℕ) → List ℕ

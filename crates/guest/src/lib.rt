@@ -1,6 +1,9 @@
-// What a guest does with one frame (01, "One frame, one reply"): its meaning, in specs/, and the laws about it. No function: the code stands in judge, answers,
-// writes and device, over this type.
+// What a guest does with one frame (01, "One frame, one reply"): its meaning, in specs/, and the laws about it. No function but what a refusal says of itself:
+// the code stands in judge, answers, writes and device, over these types.
 #![tactic(auto)]
+
+ghost use Rattle.std.specs.Prelude.{◌≡◌};
+ghost use Rattle.guest.specs.Checks.{number_of, refusal_of, frames_of};
 
 // The data bytes of every fragment but the last (01, "Served Read" and "Served fragment").
 pub const FRAGMENT_BYTES: u8 = 4;
@@ -17,14 +20,66 @@ pub const READ_ONLY_VARIABLE: u8 = 2;
 
 pub const ILLEGAL_DLC: u8 = 9;
 
-// What a frame in long form that checks 1 to 6 let pass asks for, decided by checks 7 to 12 and no state.
+// The thirteen refusals, each named after its check (specs/Checks.antt) and with its number. "The number 13 is not used again" (02, 2026-05).
+#[derive(Clone, Copy, PartialEq, Eq)]
+pub enum Refusal {
+    Misfit = 1,
+    IllFormed = 2,
+    Barred = 3,
+    NotForUs = 4,
+    NoService = 5,
+    NotRequest = 6,
+    ActionOrEvent = 7,
+    BadShape = 8,
+    Unknown = 9,
+    NoAccess = 10,
+    WrongLength = 11,
+    WrongPiece = 12,
+    OutOfOrder = 14,
+}
+
+impl Refusal {
+    // The number of the reply.
+    pub fn number(self) -> u8
+        ensures { result ≡ number_of self }
+    {
+        self as u8
+    }
+
+    // The refusal of a number, if one has it. It is 32 bits wide, so that C's 263 is not taken for 7.
+    #[tactic(auto, unfolding(crate::specs::Checks::refusal_of))]
+    pub fn of_number(number: u32) -> Option<Refusal>
+        ensures { result ≡ refusal_of number }
+    {
+        match number {
+            1 => Some(Refusal::Misfit),
+            2 => Some(Refusal::IllFormed),
+            3 => Some(Refusal::Barred),
+            4 => Some(Refusal::NotForUs),
+            5 => Some(Refusal::NoService),
+            6 => Some(Refusal::NotRequest),
+            7 => Some(Refusal::ActionOrEvent),
+            8 => Some(Refusal::BadShape),
+            9 => Some(Refusal::Unknown),
+            10 => Some(Refusal::NoAccess),
+            11 => Some(Refusal::WrongLength),
+            12 => Some(Refusal::WrongPiece),
+            14 => Some(Refusal::OutOfOrder),
+            _ => None,
+        }
+    }
+
+    // How many frames are put: 1 to 6 put none, the others one error frame.
+    pub fn frames(self) -> u8
+        ensures { result ≡ frames_of self }
+    {
+        if self.number() <= 6 { 0 } else { 1 }
+    }
+}
+
+// What a frame in long form that checks 1 to 12 let pass asks for. No state decides it.
 #[derive(Clone, Copy)]
 pub enum Plan {
-    // Refused with 7 to 12: one error frame.
-    Error {
-        number: u8,
-        object: u8,
-    },
     Read(table::Attribute),
     Write {
         to: table::Attribute,

@@ -1,6 +1,7 @@
 -- Each public function's contract leaves one outcome, and asks nothing of a caller.
 use mathlib.Core.Path.{◌≡◌, sym, ◌∙◌}
-use Rattle.judge.proofs.frame_checks.route_number.Reads as route-number
+use Rattle.guest.proofs.Refusals.{passed_by_number}
+use Rattle.judge.proofs.frame_checks.route.Reads as route
 use Rattle.judge.proofs.frame_checks.misfit.Reads as misfit
 use Rattle.judge.proofs.judging.request_plan.Reads as request-plan
 use Rattle.judge.proofs.switching.point_for.Reads as point-for
@@ -12,8 +13,8 @@ point_for_determined κs args r r' s s' p q = p ∙ sym q
 pub state_of_determined : (κs : _) (args : _) (r r' : _) (s s' : _) → state-of.Post κs args r s → state-of.Post κs args r' s' → r ≡ r'
 state_of_determined κs args r r' s s' p q = p ∙ sym q
 
-pub route_number_determined : (κs : _) (args : _) (r r' : _) (s s' : _) → route-number.Post κs args r s → route-number.Post κs args r' s' → r ≡ r'
-route_number_determined κs args r r' s s' p q = p ∙ sym q
+pub route_determined : (κs : _) (args : _) (r r' : _) (s s' : _) → route.Post κs args r s → route.Post κs args r' s' → r ≡ r'
+route_determined κs args r r' s s' p q = passed_by_number r r' (p ∙ sym q)
 
 pub misfit_determined : (κs : _) (args : _) (r r' : _) (s s' : _) → misfit.Post κs args r s → misfit.Post κs args r' s' → r ≡ r'
 misfit_determined κs args r r' s s' p q = p ∙ sym q
@@ -27,8 +28,8 @@ point_for_asks_nothing κs args = tt
 pub state_of_asks_nothing : (κs : _) (args : _) → state-of.Asked κs args
 state_of_asks_nothing κs args = tt
 
-pub route_number_asks_nothing : (κs : _) (args : _) → route-number.Asked κs args
-route_number_asks_nothing κs args = tt
+pub route_asks_nothing : (κs : _) (args : _) → route.Asked κs args
+route_asks_nothing κs args = tt
 
 pub misfit_asks_nothing : (κs : _) (args : _) → misfit.Asked κs args
 misfit_asks_nothing κs args = tt

@@ -1,5 +1,5 @@
 -- Checks in groups are 01's list: what is judged of a frame group by group, and what the code makes of a Request.
-use Rattle.std.proofs.Common.{Option, Some, None}
+use Rattle.std.proofs.Common.{Option, Some, None, Result, Err}
 use Prim.Native.Nat.{ℕ, ◌≤◌, ◌<◌}
 use mathlib.Core.Path.{◌≡◌, refl, sym, ap, subst, ◌∙◌}
 use mathlib.Core.Bool.{Bool, true, false, cond, not, ◌&&◌, ◌||◌}
@@ -29,11 +29,12 @@ use Rattle.table.specs.Table.{readable, writable, Ordered, first_network, single
 use Rattle.join.specs.Work.{shaped_by}
 use Rattle.table.proofs.Tables.{search_finds}
 use Rattle.guest.specs.declared.Plan.{Plan}
-use Rattle.guest.specs.declared.Plan.TheVariants.{Error}
+use Rattle.guest.specs.declared.Refusal.{Refusal}
+use Rattle.guest.specs.declared.Refusal.TheVariants.{BadShape}
 use Rattle.guest.specs.Checks.{Setting, misfit, ill_formed, not_for_us, in_short, short_write, takes_state, not_request, action_or_event, bad_shape, fragment_bytes, sought_in, plan_checks}
-use Rattle.guest.specs.Step.{served, Judged, quiet, asks, switched, judged_of}
+use Rattle.guest.specs.Step.{served, Judged, quiet, switched, judged_of}
 use Rattle.guest.proofs.Plans.{accepted, passed, sought_long, sought_short}
-use Rattle.judge.specs.Code.{quiet_checks, route_checks, taking, point_for, sought_by, shape_checks, attribute_checks, plan_by, request_plan, read_found, read_plan, piece_plan, body_plan, write_plan, answered, plan_by_service}
+use Rattle.judge.specs.Code.{quiet_checks, route_checks, taking, point_for, sought_by, shape_checks, attribute_checks, plan_by, request_plan, judged_in, read_found, read_plan, piece_plan, body_plan, write_plan, answered, plan_by_service}
 
 -- the DLC of a short form, and of a long one
 pub short_dlc : (dlc : ℕ) → dlc < 2 → (dlc ≡ 1 → ⊥) → eqb dlc 0 ≡ true
@@ -43,7 +44,7 @@ pub long_dlc : (dlc : ℕ) → 2 ≤ dlc → (eqb dlc 0 ≡ false) × (eqb dlc 1
 long_dlc dlc l = (ne_eqb dlc 0 (omega arith), ne_eqb dlc 1 (omega arith))
 
 -- two groups of checks, one after the other
-plan_append : (cs ds : List Check) → rises_from 0 cs ≡ true → (o : ℕ) (p : Plan)
+plan_append : (cs ds : List Check) → rises_from 0 cs ≡ true → (o : ℕ) (p : Judged)
     → plan_by (first_of (cs ++ ds)) o p ≡ plan_by (first_of cs) o (plan_by (first_of ds) o p)
 plan_append cs ds r o p =
     let a = first_append 0 cs ds r in
@@ -77,15 +78,15 @@ module _ (s : Setting) (r : List ℕ) where
   unfolding later
   by_groups = plan_append (shape_checks (header_of r)) (attribute_checks (header_of r) (message_of r) (sought_in s.table (header_of r))) refl (header_of r).object _
 
-  pub request_judged : in_short (header_of r) ≡ false → first_of (quiet_checks s r) ≡ 0 → judged_of s r ≡ asks (request_plan s.table r)
+  pub request_judged : in_short (header_of r) ≡ false → first_of (quiet_checks s r) ≡ 0 → judged_of s r ≡ request_plan s.table r
   unfolding judged_of
   request_judged l e =
       rw (first_is, e, l)
       (split (eqb (first_of later) 0)
-      (λ t. simp t (ap {B = Judged} asks (simp t at by_groups)))
+      (λ t. simp t (simp t at by_groups))
       (λ t.
       let six = lt-leb (first_of later) 6 (late (eqb-false (first_of later) 0 t)) in
-      simp (t, six) (ap {B = Judged} asks (simp t at by_groups))))
+      simp (t, six) (simp t at by_groups)))
 
   -- a short form that they let pass is a short Write
   pub switch_judged : in_short (header_of r) ≡ true → first_of (quiet_checks s r) ≡ 0 → judged_of s r ≡ switched (header_of r) (sought_in s.table (header_of r))
@@ -93,11 +94,6 @@ module _ (s : Setting) (r : List ℕ) where
   switch_judged l e = rw (first_is, e, l)
 
 -- ---- what the code finds for a short form
-
-pub point_by : (t : List ℕ) (h : Header) (a : Attribute) → short_write h ≡ true → first_network t 0 ≡ Some a
-    → point_for t h ≡ cond (single_boolean a && writable a) (Some a) None
-unfolding point_for
-point_by t h a w f = rw (w, f)
 
 point_taken : (t : List ℕ) (h : Header) → short_write h && takes_state (first_network t 0) ≡ true → point_for t h ≡ first_network t 0
 unfolding point_for
@@ -178,7 +174,7 @@ is_long (Fragment u number total b) = true
 
 -- checks 9 to 12 of a Write
 write_as_checks : (h : Header) → h.service ≡ write_service → (m : Message) → is_long m ≡ true → (f : Option Attribute)
-    → write_plan h.object m f ≡ plan_by (first_of (attribute_checks h m f)) h.object (served h m f)
+    → judged_in h (write_plan m f) ≡ plan_by (first_of (attribute_checks h m f)) h.object (served h m f)
 unfolding write_plan body_plan piece_plan
 write_as_checks h e m l None = refl
 write_as_checks h e m l (Some a) = split (writable a) (λ t. go m l t) (λ t. simp (read, t))
@@ -190,7 +186,7 @@ write_as_checks h e m l (Some a) = split (writable a) (λ t. go m l t) (λ t. si
     write = eq-eqb h.service write_service e
 
     go : (m : Message) → is_long m ≡ true → writable a ≡ true
-        → write_plan h.object m (Some a) ≡ plan_by (first_of (attribute_checks h m (Some a))) h.object (served h m (Some a))
+        → judged_in h (write_plan m (Some a)) ≡ plan_by (first_of (attribute_checks h m (Some a))) h.object (served h m (Some a))
     go (Short d q v) l t = clash l refl
     go (Plain u b) l t = split (eqb b.len a.len) (λ q. simp (read, write, t, q)) (λ q. simp (read, write, t, q))
     go (Fragment u n k b) l t =
@@ -212,7 +208,7 @@ module _ (table r : List ℕ) (ordered : Ordered table) (l : in_short (header_of
   five = long_served (header_of r) long v
 
   -- the message of a Read that check 8 lets pass is plain, so that 11 and 12 say nothing of it
-  read_request : (header_of r).service ≡ read_service → read_plan (header_of r) (sought_in table (header_of r)) ≡ request_plan table r
+  read_request : (header_of r).service ≡ read_service → judged_in (header_of r) (read_plan (header_of r) (sought_in table (header_of r))) ≡ request_plan table r
   unfolding read_plan
   read_request e =
       let a : action_or_event (header_of r) ≡ false = le-ltb 5 (header_of r).service (omega arith) in
@@ -227,7 +223,7 @@ module _ (table r : List ℕ) (ordered : Ordered table) (l : in_short (header_of
     where
       by_found : message_of r ≡ Plain (subject_of (header_of r)) (data_of (payload_of r))
           → eqb (header_of r).service read_service ≡ true → eqb (header_of r).service write_service ≡ false → (f : Option Attribute)
-          → read_found (header_of r).object f
+          → judged_in (header_of r) (read_found f)
           ≡ plan_by (first_of (attribute_checks (header_of r) (message_of r) f)) (header_of r).object (served (header_of r) (message_of r) f)
       by_found m five four None = refl
       by_found m five four (Some x) = split (readable x) (λ t. simp (m, five, four, t)) (λ t. simp (m, five, four, t))
@@ -237,7 +233,7 @@ module _ (table r : List ℕ) (ordered : Ordered table) (l : in_short (header_of
     no_action = le-ltb 5 (header_of r).service (omega arith)
 
     -- a Write that the codec refuses is of the shape that check 8 refuses
-    refused_request : (k : ℕ) → length r ≡ 10 → read_of r ≡ Err k → Error 8 (header_of r).object ≡ request_plan table r
+    refused_request : (k : ℕ) → length r ≡ 10 → read_of r ≡ Err k → judged_in (header_of r) (Err BadShape) ≡ request_plan table r
     refused_request k n f =
         split (bad_shape (header_of r))
         (λ t. simp (no_action, t))
@@ -262,28 +258,28 @@ module _ (table r : List ℕ) (ordered : Ordered table) (l : in_short (header_of
         )
 
   -- what the code makes of it is what 01's list gives
-  request_by_service : length r ≡ 10 → plan_by_service table (header_of r) r ≡ request_plan table r
+  request_by_service : length r ≡ 10 → judged_in (header_of r) (plan_by_service table (header_of r) r) ≡ request_plan table r
   unfolding plan_by_service
   request_by_service n =
       split (action_or_event (header_of r))
       (λ t. simp t)
       (λ t. split (eqb (header_of r).service read_service)
-      (λ q. of_read t q ∙ read_request (eqb-true (header_of r).service read_service q))
+      (λ q. ap (judged_in (header_of r)) (of_read t q) ∙ read_request (eqb-true (header_of r).service read_service q))
       (λ q.
       let least = five.1 in
       let e : (header_of r).service ≡ write_service = omega (arith, ltb-false 5 (header_of r).service t, eqb-false (header_of r).service read_service q) in
-      of_write t q ∙ by_answer e (read_of r) refl))
+      ap (judged_in (header_of r)) (of_write t q) ∙ by_answer e (read_of r) refl))
     where
       of_read : action_or_event (header_of r) ≡ false → eqb (header_of r).service read_service ≡ true
           → plan_by_service table (header_of r) r ≡ read_plan (header_of r) (sought_in table (header_of r))
       of_read t q = rw found_so (simp (t, q))
 
       of_write : action_or_event (header_of r) ≡ false → eqb (header_of r).service read_service ≡ false
-          → plan_by_service table (header_of r) r ≡ answered (header_of r).object (sought_in table (header_of r)) (read_of r)
+          → plan_by_service table (header_of r) r ≡ answered (sought_in table (header_of r)) (read_of r)
       of_write t q = rw found_so (simp (t, q))
 
       by_answer : (header_of r).service ≡ write_service → (a : Result Message ℕ) → read_of r ≡ a
-          → answered (header_of r).object (sought_in table (header_of r)) a ≡ request_plan table r
+          → judged_in (header_of r) (answered (sought_in table (header_of r)) a) ≡ request_plan table r
       by_answer e (Err k) p = refused_request e k n p
       by_answer e (Ok m) p =
           let w = write_request e m p in
@@ -293,12 +289,12 @@ module _ (table r : List ℕ) (ordered : Ordered table) (l : in_short (header_of
 
 -- a Request that checks 1 to 6 let pass: what the code finds by the service is what 01's list gives
 pub request_planned : (s : Setting) (r : List ℕ) → in_short (header_of r) ≡ false → first_of (quiet_checks s r) ≡ 0 → (h : Header) → h ≡ header_of r
-    → (p : Plan) → p ≡ plan_by_service s.table h r → judged_of s r ≡ asks p
+    → (p : Result Plan Refusal) → p ≡ plan_by_service s.table h r → judged_of s r ≡ judged_in h p
 unfolding holds_at
 request_planned s r l e h he p pe =
     let none = (none_holds (quiet_checks s r) refl).0 e in
     let ordered : Ordered s.table = (s.store_len, not-false _ (none 2)) in
     request_judged s r l e
-    ∙ ap {B = Judged} asks
-    (sym (pe ∙ ap (λ (k : Header). plan_by_service s.table k r) he
-    ∙ request_by_service s.table r ordered l (none 3) ((neither (unserved (header_of r)) _).0 (none 5)).0 (accepted s r (none 1)).ten))
+    ∙ sym (ap (λ (k : Header). judged_in k p) he
+    ∙ ap (judged_in (header_of r)) (pe ∙ ap (λ (k : Header). plan_by_service s.table k r) he)
+    ∙ request_by_service s.table r ordered l (none 3) ((neither (unserved (header_of r)) _).0 (none 5)).0 (accepted s r (none 1)).ten)

@@ -12,9 +12,11 @@ use Rattle.table.specs.declared.Attribute.{Attribute}
 use Rattle.table.specs.Table.{readable, writable, searched, first_network}
 use Rattle.join.specs.Work.{shaped_by}
 use Rattle.guest.specs.declared.Plan.{Plan}
-use Rattle.guest.specs.declared.Plan.TheVariants.{Error, Read, Write, Join}
-use Rattle.guest.specs.Checks.{Setting, not_for_us, in_short, short_write, takes_state, front_checks, not_request, action_or_event, bad_shape, unknown, no_access, wrong_length, wrong_piece, fragment_bytes, sought_in}
-use Rattle.guest.specs.Step.{served}
+use Rattle.guest.specs.declared.Plan.TheVariants.{Read, Write, Join}
+use Rattle.guest.specs.declared.Refusal.{Refusal}
+use Rattle.guest.specs.declared.Refusal.TheVariants.{ActionOrEvent, BadShape, Unknown, NoAccess, WrongLength, WrongPiece}
+use Rattle.guest.specs.Checks.{Setting, not_for_us, in_short, short_write, takes_state, front_checks, not_request, action_or_event, bad_shape, unknown, no_access, wrong_length, wrong_piece, fragment_bytes, sought_in, number_of}
+use Rattle.guest.specs.Step.{served, Judged, errs, asks}
 
 -- 1 to 6: those that put no frame
 abbrev pub quiet_checks : Setting → List ℕ → List Check
@@ -43,11 +45,11 @@ abbrev pub attribute_checks : Header → Message → Option Attribute → List C
 attribute_checks h m found = (unknown found, 9) ∷ (no_access h found, 10) ∷ (wrong_length h m found, 11) ∷ (wrong_piece m, 12) ∷ []
 
 -- refused with a number, or what comes after
-abbrev pub plan_by : ℕ → ℕ → Plan → Plan
-plan_by n object p = cond (eqb n 0) p (Error n object)
+abbrev pub plan_by : ℕ → ℕ → Judged → Judged
+plan_by n object p = cond (eqb n 0) p (errs n object)
 
--- the plan of a frame in long form that passes checks 1 to 6
-abbrev pub request_plan : List ℕ → List ℕ → Plan
+-- what is judged of a frame in long form that passes checks 1 to 6
+abbrev pub request_plan : List ℕ → List ℕ → Judged
 request_plan table r =
     plan_by (first_of (shape_checks (header_of r))) (header_of r).object
     (plan_by (first_of (attribute_checks (header_of r) (message_of r) (sought_in table (header_of r)))) (header_of r).object
@@ -55,39 +57,44 @@ request_plan table r =
 
 -- ---- the same as the code decides it: by the service, for every header, message and record
 
--- checks 8 to 10 of a Read: it has no data that 11 and 12 could look at
-abbrev pub read_found : ℕ → Option Attribute → Plan
-read_found object None = Error 9 object
-read_found object (Some a) = cond (readable a) (Read a) (Error 10 object)
+-- what is judged of a frame that the code gives a plan or refuses: the error frame names the request's object
+abbrev pub judged_in : Header → Result Plan Refusal → Judged
+judged_in h (Ok p) = asks p
+judged_in h (Err e) = errs (number_of e) h.object
 
-unfoldable pub read_plan : Header → Option Attribute → Plan
-read_plan h found = cond (eqb h.flag 1 || not (eqb h.dlc 2)) (Error 8 h.object) (read_found h.object found)
+-- checks 8 to 10 of a Read: it has no data that 11 and 12 could look at
+abbrev pub read_found : Option Attribute → Result Plan Refusal
+read_found None = Err Unknown
+read_found (Some a) = cond (readable a) (Ok (Read a)) (Err NoAccess)
+
+unfoldable pub read_plan : Header → Option Attribute → Result Plan Refusal
+read_plan h found = cond (eqb h.flag 1 || not (eqb h.dlc 2)) (Err BadShape) (read_found found)
 
 -- check 12 of a fragment
-unfoldable pub piece_plan : ℕ → Attribute → (number total : ℕ) → Data → Plan
-piece_plan object a number total b = cond (shaped_by fragment_bytes total number b.len) (Join a number total b) (Error 12 object)
+unfoldable pub piece_plan : Attribute → (number total : ℕ) → Data → Result Plan Refusal
+piece_plan a number total b = cond (shaped_by fragment_bytes total number b.len) (Ok (Join a number total b)) (Err WrongPiece)
 
 -- 11 and 12 of a Write; a message in short form is none, and check 5 has let none pass
-unfoldable pub body_plan : ℕ → Attribute → Message → Plan
-body_plan object a (Short dir address service) = Error 8 object
-body_plan object a (Plain u b) = cond (eqb b.len a.len) (Write a b) (Error 11 object)
-body_plan object a (Fragment u number total b) = cond (eqb total a.len) (piece_plan object a number total b) (Error 11 object)
+unfoldable pub body_plan : Attribute → Message → Result Plan Refusal
+body_plan a (Short dir address service) = Err BadShape
+body_plan a (Plain u b) = cond (eqb b.len a.len) (Ok (Write a b)) (Err WrongLength)
+body_plan a (Fragment u number total b) = cond (eqb total a.len) (piece_plan a number total b) (Err WrongLength)
 
 -- 9 to 12 of a Write
-unfoldable pub write_plan : ℕ → Message → Option Attribute → Plan
-write_plan object m None = Error 9 object
-write_plan object m (Some a) = cond (writable a) (body_plan object a m) (Error 10 object)
+unfoldable pub write_plan : Message → Option Attribute → Result Plan Refusal
+write_plan m None = Err Unknown
+write_plan m (Some a) = cond (writable a) (body_plan a m) (Err NoAccess)
 
 -- 8 to 12 of a Write: what the codec refuses has the flag, and neither number nor total
-abbrev pub answered : ℕ → Option Attribute → Result Message ℕ → Plan
-answered object found (Err n) = Error 8 object
-answered object found (Ok m) = write_plan object m found
+abbrev pub answered : Option Attribute → Result Message ℕ → Result Plan Refusal
+answered found (Err n) = Err BadShape
+answered found (Ok m) = write_plan m found
 
 -- what the code's search finds for a header
 abbrev pub sought_by : List ℕ → Header → Option Attribute
 sought_by t h = searched t h.object h.id
 
-unfoldable pub plan_by_service : List ℕ → Header → List ℕ → Plan
+unfoldable pub plan_by_service : List ℕ → Header → List ℕ → Result Plan Refusal
 plan_by_service table h r =
-    cond (action_or_event h) (Error 7 h.object)
-    (cond (eqb h.service read_service) (read_plan h (sought_by table h)) (answered h.object (sought_by table h) (read_of r)))
+    cond (action_or_event h) (Err ActionOrEvent)
+    (cond (eqb h.service read_service) (read_plan h (sought_by table h)) (answered (sought_by table h) (read_of r)))

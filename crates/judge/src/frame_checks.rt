@@ -2,7 +2,10 @@
 ghost use Rattle.std.specs.Prelude.{◌≡◌};
 ghost use Rattle.laws.specs.Checks.{first_of};
 ghost use Rattle.guest.specs.Checks.{setting_by, misfit};
+ghost use Rattle.guest.specs.Step.{number_in};
 ghost use Rattle.judge.specs.Code.{route_checks};
+
+use guest::Refusal;
 
 // Check 1. Own address is 32 bits wide, so that 265 is refused and not taken for 9.
 pub fn misfit(
@@ -15,54 +18,31 @@ pub fn misfit(
 ) -> bool
     ensures { result ≡ misfit (setting_by own table.now store_len work_len out_len) frame.now }
 {
-    if !table::lengths_fit(table.len(), store_len) {
-        return true;
-    }
-    if frame.len() != codec::FRAME_SIZE {
-        return true;
-    }
-    if work_len != join::AREA {
-        return true;
-    }
-    if out_len < guest::LEAST_OUT {
-        return true;
-    }
-    if (codec::MOST_ADDRESS as u32) < own {
-        return true;
-    }
-    false
+    !table::lengths_fit(table.len(), store_len)
+        || frame.len() != codec::FRAME_SIZE
+        || work_len != join::AREA
+        || out_len < guest::LEAST_OUT
+        || (codec::MOST_ADDRESS as u32) < own
 }
 
-// The first of checks 3 to 6 that holds, as far as the header decides them; 0 where none does. A short form is let through to `point_for`.
-pub fn route_number(own: u32, h: codec::Header) -> u8
-    ensures { result ≡ first_of (route_checks own h) }
+// Checks 3 to 6, as far as the header decides them. A short form is let through to `point_for`.
+pub fn route(own: u32, h: codec::Header) -> Result<(), Refusal>
+    ensures { number_in result ≡ first_of (route_checks own h) }
 {
-    if h.rtr == 1 {
-        return 3;
+    if h.rtr == 1 || codec::MOST_DLC < h.dlc || codec::MOST_ADDRESS < h.address {
+        return Err(Refusal::Barred);
     }
-    if codec::MOST_DLC < h.dlc {
-        return 3;
+    if h.dir == 1 || h.address as u32 != own {
+        return Err(Refusal::NotForUs);
     }
-    if codec::MOST_ADDRESS < h.address {
-        return 3;
+    if h.dlc == 0 {
+        return Ok(());
     }
-    if h.dir == 1 {
-        return 4;
-    }
-    if h.address as u32 != own {
-        return 4;
-    }
-    if h.dlc < 2 {
-        if h.dlc == 1 {
-            return 5;
-        }
-        return 0;
-    }
-    if h.service < codec::LOWEST_LONG {
-        return 5;
+    if h.dlc == 1 || h.service < codec::LOWEST_LONG {
+        return Err(Refusal::NoService);
     }
     if h.response != codec::REQUEST {
-        return 6;
+        return Err(Refusal::NotRequest);
     }
-    0
+    Ok(())
 }

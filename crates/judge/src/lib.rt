@@ -5,6 +5,6 @@ mod frame_checks;
 mod judging;
 mod switching;
 
-pub use frame_checks::{misfit, route_number};
+pub use frame_checks::{misfit, route};
 pub use judging::request_plan;
 pub use switching::{point_for, state_of};

@@ -11,35 +11,23 @@ use table::Attribute;
 fn is_short_write(h: Header) -> bool
     ensures { result ≡ short_write h }
 {
-    if h.service == codec::WRITE_OFF {
-        return true;
-    }
-    h.service == codec::WRITE_ON
+    h.service == codec::WRITE_OFF || h.service == codec::WRITE_ON
 }
 
 // The record that a frame in short form gives its state to: object 0's first network record, where the frame is a short Write and the record takes it.
+#[tactic(auto, unfolding(crate::specs::Code::point_for))]
 pub fn point_for(table: &[u8], h: Header) -> Option<Attribute>
     ensures { result ≡ point_for table.now h }
 {
     if !is_short_write(h) {
         return None;
     }
-    let a = table::first_network(table, 0)?;
-    if !table::single_boolean(a) {
-        return None;
-    }
-    if table::may_write(a) {
-        return Some(a);
-    }
-    None
+    table::first_network(table, 0).filter(|a| table::single_boolean(*a) && table::may_write(*a))
 }
 
 // ON is 1, OFF is 0.
 pub fn state_of(h: Header) -> u8
     ensures { result ≡ state_of h }
 {
-    if h.service == codec::WRITE_ON {
-        return 1;
-    }
-    0
+    if h.service == codec::WRITE_ON { 1 } else { 0 }
 }

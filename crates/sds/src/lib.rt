@@ -4,13 +4,24 @@
 
 mod messages;
 
-ghost use Rattle.std.specs.Prelude.{◌≡◌};
+ghost use Rattle.std.specs.Prelude.{◌≡◌, ◌+◌, ◌*◌};
 ghost use Rattle.laws.specs.Checks.{first_of};
 ghost use Rattle.sds.specs.Border.{border_read_number, border_read, border_write_number, border_write, border_size, table_checks, stepped, border_step};
 ghost use Rattle.guest.specs.Errors.{code_of};
-ghost use Rattle.guest.specs.Step.{areas, call, step_of};
+ghost use Rattle.guest.specs.Step.{areas, call, step_of, number_in, count_in};
 
+use guest::Refusal;
 use messages::{read_into, write_from};
+
+// The number of a reply and the count of its frames, in one number.
+fn packed(reply: Result<u8, Refusal>) -> u32
+    ensures { result ≡ number_in reply + 256 * count_in reply }
+{
+    match reply {
+        Ok(count) => 256 * (count as u32),
+        Err(refusal) => (refusal.number() as u32) + 256 * (refusal.frames() as u32),
+    }
+}
 
 // One frame: what the device answers, number + 256 * count. Its frames stand at the front of the output.
 pub fn sds_step(
@@ -24,8 +35,7 @@ pub fn sds_step(
     ensures { stepped result (areas store.new work.new) out.new
         ≡ border_step (step_of (call frame.now own table.now (areas store.old work.old) out.old)) }
 {
-    let reply = device::step(frame, own, table, store, work, out);
-    (reply.number as u32) + 256 * (reply.count as u32)
+    packed(device::step(frame, own, table, store, work, out))
 }
 
 // Reads a record into the 16 bytes of a message. Refused are 1 (not 16 bytes, or not ten), 3, 5 and 8, and the message buffer stays.
@@ -63,12 +73,12 @@ pub fn sds_table_check(table: &[u8], store_len: u64) -> u32
     ensures { result ≡ first_of (table_checks table.now store_len) }
 {
     if !table::lengths_fit(table.len(), store_len as usize) {
-        return 1;
+        return Refusal::Misfit.number() as u32;
     }
-    if table::well_formed(&table[..], store_len as usize) {
-        return 0;
+    if !table::well_formed(&table[..], store_len as usize) {
+        return Refusal::IllFormed.number() as u32;
     }
-    2
+    0
 }
 
 // The code that the error frame of a refusal carries; 0 where no error frame is put with this number.

@@ -1,64 +1,51 @@
-use Prim.Native.Nat.{ℕ, ◌+◌, ◌*◌}
+use Prim.Native.Nat.{ℕ, ◌+◌, ◌*◌, ◌/◌}
 use mathlib.Core.List.{List}
-use mathlib.Core.Path.{◌≡◌, refl, ap, ◌∙◌}
+use mathlib.Core.Path.{◌≡◌, ap, ◌∙◌}
 use native.Mathlib.Omega.{arith}
+use lib.ListN.{length}
 use Rattle.laws.specs.Put.{put}
 use Rattle.codec.specs.Names.{frame_size}
+use Rattle.guest.specs.Checks.{fragment_bytes}
 use Rattle.guest.specs.Step.{fragment_frame, fragment_frames, sent}
 use Rattle.answers.proofs.Sending.{fragments_none, fragments_more}
 use Rattle.answers.proofs.answering.send_fragments.Goals as goal
 
 pub loop-n-init : goal.loop-n-init
-loop-n-init c = let a = c.args in (refl, omega arith, refl, fragments_none a.about a.part.now a.out.now)
+loop-n-init c = let a = c.args in fragments_none a.about a.part.now a.out.now
 
 pub send_full-requires : goal.send_full-requires
 send_full-requires c = (
-  record { subject = c.requires.0; number = omega (arith, c.loop-n.invariant); whole = c.requires.1; room = omega (arith, c.loop-n.invariant, c.requires.3) },
-  omega (arith, c.loop-n.invariant),
+  record { subject = c.requires.0; number = omega (arith, c.loop-n-test.true, c.requires.1); whole = c.requires.1; room = omega (arith, c.loop-n-test.true, c.loop-n.auto.out, c.requires) },
+  omega (arith, c.loop-n-test.true),
 )
-
-pub overflow_add-n : goal.overflow_add-n
-overflow_add-n c = omega arith
-
-pub loop-n-smaller : goal.loop-n-smaller
-loop-n-smaller c = omega arith
 
 pub loop-n-preserved : goal.loop-n-preserved
 loop-n-preserved c =
     let a = c.args in
-    let n = c.loop-n.n in (
-      c.loop-n.invariant.0,
-      omega arith,
-      c.send_full.auto.out ∙ c.loop-n.invariant.2,
-      c.send_full.ensures ∙ ap (λ (o : List ℕ). put o (n * frame_size) (fragment_frame a.about a.part.now n)) c.loop-n.invariant.3
-          ∙ fragments_more a.about a.part.now a.out.now n (omega (arith, c.loop-n.invariant, c.requires.3)),
-    )
+    let n = c.loop-n.n in
+    c.send_full.ensures ∙ ap (λ (o : List ℕ). put o (n * frame_size) (fragment_frame a.about a.part.now n)) c.loop-n.invariant
+    ∙ fragments_more a.about a.part.now a.out.now n (omega (arith, c.loop-n-test.true, c.requires))
 
 pub send_rest-requires : goal.send_rest-requires
 send_rest-requires c = (
-  record { subject = c.requires.0; number = omega (arith, c.loop-n.invariant); whole = c.requires.1; room = omega (arith, c.loop-n.invariant, c.requires) },
-  omega (arith, c.loop-n.invariant),
-  omega (arith, c.loop-n.invariant),
+  record { subject = c.requires.0; number = omega (arith, c.requires.1); whole = c.requires.1; room = omega (arith, c.loop-n.auto.out, c.if-full-count.true, c.requires) },
+  omega arith,
+  omega arith,
 )
 
-pub shape_of-out-then-n-count : goal.shape_of-out-then-n-count
-shape_of-out-then-n-count c = c.send_rest.auto.out ∙ c.loop-n.invariant.2
-
-pub returns-then-n-count : goal.returns-then-n-count
-returns-then-n-count c =
+pub returns-then-full-count : goal.returns-then-full-count
+returns-then-full-count c =
     let a = c.args in
-    let n = c.loop-n.n in
-    let e : n + 1 ≡ a.count = omega (arith, c.loop-n.invariant, c.requires.2) in
+    let full = length a.part.now / fragment_bytes in
+    let n : c.loop-n.n ≡ full = omega (arith, c.loop-n-test.false, c.loop-n.auto.n-end) in
+    let e : full + 1 ≡ a.count = omega (arith, c.if-full-count.true, c.requires.2) in
     c.send_rest.ensures
-    ∙ ap (λ (o : List ℕ). put o (n * frame_size) (fragment_frame a.about a.part.now n)) c.loop-n.invariant.3
-    ∙ fragments_more a.about a.part.now a.out.now n (omega (arith, c.loop-n.invariant, c.requires.3))
+    ∙ ap (λ (o : List ℕ). put o (full * frame_size) (fragment_frame a.about a.part.now full)) (c.loop-n.invariant ∙ ap (λ (k : ℕ). sent (fragment_frames a.about a.part.now k) a.out.now) n)
+    ∙ fragments_more a.about a.part.now a.out.now full (omega (arith, c.if-full-count.true, c.requires))
     ∙ ap (λ (k : ℕ). sent (fragment_frames a.about a.part.now k) a.out.now) e
 
-pub shape_of-out-else-n-count : goal.shape_of-out-else-n-count
-shape_of-out-else-n-count c = c.loop-n.invariant.2
-
-pub returns-else-n-count : goal.returns-else-n-count
-returns-else-n-count c =
+pub returns-else-full-count : goal.returns-else-full-count
+returns-else-full-count c =
     let a = c.args in
-    let e : c.loop-n.n ≡ a.count = omega (arith, c.loop-n.invariant, c.requires.2) in
-    c.loop-n.invariant.3 ∙ ap (λ (k : ℕ). sent (fragment_frames a.about a.part.now k) a.out.now) e
+    let e : c.loop-n.n ≡ a.count = omega (arith, c.loop-n-test.false, c.loop-n.auto.n-end, c.if-full-count.false, c.requires.2) in
+    c.loop-n.invariant ∙ ap (λ (k : ℕ). sent (fragment_frames a.about a.part.now k) a.out.now) e

@@ -1,8 +1,0 @@
-use Rattle.laws.proofs.Tests.{tests}
-use Rattle.answers.proofs.answering.acknowledge_of.Goals as goal
-
-pub returns-then-h-eq-WRITE_ON : goal.returns-then-h-eq-WRITE_ON
-returns-then-h-eq-WRITE_ON c = search tests
-
-pub returns : goal.returns
-returns c = search tests
