@@ -1,5 +1,6 @@
 pub mod Examples
 pub mod Headers
+pub mod Errors
 pub mod Cans
 pub mod Fits
 pub mod Images

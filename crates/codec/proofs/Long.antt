@@ -15,7 +15,7 @@ use Rattle.octets.specs.Data.{data_of}
 use Rattle.octets.proofs.Datas.{bytes_data, tidy_data, data_bytes, byte_place}
 use Rattle.codec.specs.declared.Header.{Header}
 use Rattle.codec.specs.declared.Subject.{Subject}
-use Rattle.codec.specs.declared.Answer.TheVariants.{Got}
+use Rattle.std.specs.Prelude.{Ok}
 use Rattle.codec.specs.declared.Message.TheVariants.{Plain, Fragment}
 use Rattle.codec.specs.Fields.{header_of}
 use Rattle.codec.specs.Reading.{header_checks, read_checks, subject_of, payload_to, payload_of, short_of, long_of, message_of, read_of}
@@ -26,7 +26,7 @@ use Rattle.codec.proofs.Fits.{SubjectFits}
 use Rattle.codec.proofs.Images.{long_padded, long_length, data_unprefixed}
 
 -- a record that no check refuses is read
-pub got : (r : List ℕ) → length r ≡ 10 → first_of (header_checks (header_of r)) ≡ 0 → read_of r ≡ Got (message_of r)
+pub got : (r : List ℕ) → length r ≡ 10 → first_of (header_checks (header_of r)) ≡ 0 → read_of r ≡ Ok (message_of r)
 unfolding read_of
 got r n e = simp (eq-eqb (length r) 10 n, e)
 
@@ -88,7 +88,7 @@ module _ (u : Subject) (f : ℕ) (p : List ℕ) (s : Shape f p) where
       long_passes (header_with u f (length p + 2)) (simp (n0, n1)) (omega arith) t.named (λ e. omega (arith, s.numbered e))
 
   -- READING what was written
-  pub long_read : SubjectFits u → read_of (padded 10 (long_frame u f p)) ≡ Got (long_of u f p)
+  pub long_read : SubjectFits u → read_of (padded 10 (long_frame u f p)) ≡ Ok (long_of u f p)
   long_read t =
       let r = padded 10 (long_frame u f p) in
       let w = long_padded u f p s.room in
@@ -97,7 +97,7 @@ module _ (u : Subject) (f : ℕ) (p : List ℕ) (s : Shape f p) where
       let m = message_long r (header_with u f (length p + 2)) h (omega arith) in
       let d : drop 4 r ≡ padded 6 p = ap (drop 4) w in
       let q : length p + 2 - 2 ≡ length p = omega arith in
-      got r n (rw h (long_unrefused t)) ∙ ap Got (m ∙ rw (d, q, take_at p (replicate (6 - length p) 0) (length p) refl))
+      got r n (rw h (long_unrefused t)) ∙ ap Ok (m ∙ rw (d, q, take_at p (replicate (6 - length p) 0) (length p) refl))
 
   -- WRITING what was read
   pub long_back : frame_of (long_of u f p) ≡ long_frame u f p

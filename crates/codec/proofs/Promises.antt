@@ -15,7 +15,7 @@ use Rattle.laws.proofs.Tests.{split}
 use Rattle.laws.proofs.Checks.{given_exactly, none_holds}
 use Rattle.octets.specs.declared.Data.{Data}
 use Rattle.octets.specs.Data.{most_data, bytes_of, tidy}
-use Rattle.codec.specs.declared.Answer.TheVariants.{Got}
+use Rattle.std.specs.Prelude.{Ok}
 use Rattle.codec.specs.declared.Subject.{Subject}
 use Rattle.codec.specs.declared.Message.{Message}
 use Rattle.codec.specs.declared.Message.TheVariants.{Short}
@@ -24,6 +24,7 @@ use Rattle.codec.specs.Fields.{header_of}
 use Rattle.codec.specs.Reading.{read_of, read_checks, number_of}
 use Rattle.codec.specs.Writing.{Octets, subject_fits, short_fits, carried, long_frame, image_of, write_checks, write_number, written_of, cleared_of}
 use Rattle.codec.specs.Code.{put_long, put_short}
+use Rattle.codec.proofs.Errors.{same_answer, same_outcome, same_writing}
 use Rattle.codec.proofs.Images.{places_are_image, short_places_are_image}
 use Rattle.codec.proofs.Trips.{carried_is_written, written_read, read_written, read_is_carried, image_octets}
 use Rattle.codec.proofs.Unread.{same_read, cleared_ten, cleared_agrees}
@@ -32,10 +33,12 @@ use Rattle.codec.proofs.heading.can_of.Reads as can-of
 use Rattle.codec.proofs.heading.can_bytes.Reads as can-bytes
 use Rattle.codec.proofs.reading.payload_in.Reads as payload-in
 use Rattle.codec.proofs.reading.payload_of.Reads as payload-of
-use Rattle.codec.proofs.reading.refusal_of.Reads as refusal-of
+use Rattle.codec.proofs.reading.readable.Reads as readable
 use Rattle.codec.proofs.reading.subject_of.Reads as subject-of
 use Rattle.codec.proofs.reading.unprefixed.Reads as unprefixed
 use Rattle.codec.proofs.reading.read.Reads as read
+use Rattle.codec.proofs.ReadError.number.Reads as read-number
+use Rattle.codec.proofs.WriteError.number.Reads as write-number
 use Rattle.codec.proofs.writing.prefixed.Reads as prefixed
 use Rattle.codec.proofs.writing.put_long.Reads as put-long
 use Rattle.codec.proofs.writing.put_short.Reads as put-short
@@ -71,11 +74,11 @@ refused_unchanged m r h = simp (ne_eqb (write_number m r) 0 h)
 -- ---- the round trips (demand 2)
 
 -- reading what was written gives the message back
-pub written_is_read : (m : Message) (r : List ℕ) → write_number m r ≡ 0 → read_of (written_of m r) ≡ Got m
+pub written_is_read : (m : Message) (r : List ℕ) → write_number m r ≡ 0 → read_of (written_of m r) ≡ Ok m
 written_is_read m r e = let w = writes m r e in rw w.1 (written_read m w.0)
 
 -- writing what was read gives the record, with its unused bytes cleared
-pub read_is_written : (r : List ℕ) (m : Message) → Bytes r → read_of r ≡ Got m
+pub read_is_written : (r : List ℕ) (m : Message) → Bytes r → read_of r ≡ Ok m
     → (s : List ℕ) → length s ≡ frame_size → (write_number m s ≡ 0) × (written_of m s ≡ cleared_of r)
 read_is_written r m b e s n =
     let w = carried_is_written m s n (read_is_carried r m e) in
@@ -88,11 +91,11 @@ written_is_cleared m r o e =
     rw w.1 (sym (read_written (image_of m) m (image_octets m o w.0) (written_read m w.0)))
 
 -- what is writable is exactly what is readable
-pub carried_exactly : (m : Message) → Octets m → (carried m ≡ true) ↔ ((r : List ℕ) × Bytes r × (read_of r ≡ Got m))
+pub carried_exactly : (m : Message) → Octets m → (carried m ≡ true) ↔ ((r : List ℕ) × Bytes r × (read_of r ≡ Ok m))
 carried_exactly m o = (λ e. (image_of m, image_octets m o e, written_read m e), λ x. read_is_carried x.0 m x.2)
 
 -- a message is refused with 3 only if no record reads as it
-pub refused_is_unread : (m : Message) (s : List ℕ) → write_number m s ≡ 3 → (r : List ℕ) → read_of r ≡ Got m → ⊥
+pub refused_is_unread : (m : Message) (s : List ℕ) → write_number m s ≡ 3 → (r : List ℕ) → read_of r ≡ Ok m → ⊥
 unfolding write_number
 refused_is_unread m s e r g =
     let y = read_is_carried r m g in
@@ -138,8 +141,8 @@ payload_determined κs args r r' s s' p q = p ∙ sym q
 pub payload_in_determined : (κs : _) (args : _) (r r' : _) (s s' : _) → payload-in.Post κs args r s → payload-in.Post κs args r' s' → r.now ≡ r'.now
 payload_in_determined κs args r r' s s' p q = p ∙ sym q
 
-pub refusal_determined : (κs : _) (args : _) (r r' : _) (s s' : _) → refusal-of.Post κs args r s → refusal-of.Post κs args r' s' → r ≡ r'
-refusal_determined κs args r r' s s' p q = p ∙ sym q
+pub readable_determined : (κs : _) (args : _) (r r' : _) (s s' : _) → readable.Post κs args r s → readable.Post κs args r' s' → r ≡ r'
+readable_determined κs args r r' s s' p q = same_outcome r r' (p ∙ sym q)
 
 pub subject_determined : (κs : _) (args : _) (r r' : _) (s s' : _) → subject-of.Post κs args r s → subject-of.Post κs args r' s' → r ≡ r'
 subject_determined κs args r r' s s' p q = p ∙ sym q
@@ -159,11 +162,17 @@ pub put_short_determined : (κs : _) (args : _) (r r' : _) (s s' : _) → put-sh
 put_short_determined κs args r r' s s' p q = p ∙ sym q
 
 pub read_determined : (κs : _) (args : _) (r r' : _) (s s' : _) → read.Post κs args r s → read.Post κs args r' s' → r ≡ r'
-read_determined κs args r r' s s' p q = p ∙ sym q
+read_determined κs args r r' s s' p q = same_answer r r' (p ∙ sym q)
 
 pub write_determined : (κs : _) (args : _) (r r' : _) (s s' : _) → write.Post κs args r s → write.Post κs args r' s'
     → (r ≡ r') × (s.1.0.now ≡ s'.1.0.now)
-write_determined κs args r r' s s' p q = (p.0 ∙ sym q.0, p.1 ∙ sym q.1)
+write_determined κs args r r' s s' p q = (same_writing r r' (p.0 ∙ sym q.0), p.1 ∙ sym q.1)
+
+pub read_number_determined : (κs : _) (args : _) (r r' : _) (s s' : _) → read-number.Post κs args r s → read-number.Post κs args r' s' → r ≡ r'
+read_number_determined κs args r r' s s' p q = p ∙ sym q
+
+pub write_number_determined : (κs : _) (args : _) (r r' : _) (s s' : _) → write-number.Post κs args r s → write-number.Post κs args r' s' → r ≡ r'
+write_number_determined κs args r r' s s' p q = p ∙ sym q
 
 -- ---- nothing is asked of a caller
 
@@ -182,8 +191,8 @@ payload_asks_nothing κs args = tt
 pub payload_in_asks_nothing : (κs : _) (args : _) → payload-in.Asked κs args
 payload_in_asks_nothing κs args = tt
 
-pub refusal_asks_nothing : (κs : _) (args : _) → refusal-of.Asked κs args
-refusal_asks_nothing κs args = tt
+pub readable_asks_nothing : (κs : _) (args : _) → readable.Asked κs args
+readable_asks_nothing κs args = tt
 
 pub subject_asks_nothing : (κs : _) (args : _) → subject-of.Asked κs args
 subject_asks_nothing κs args = tt
@@ -205,3 +214,9 @@ read_asks_nothing κs args = tt
 
 pub write_asks_nothing : (κs : _) (args : _) → write.Asked κs args
 write_asks_nothing κs args = tt
+
+pub read_number_asks_nothing : (κs : _) (args : _) → read-number.Asked κs args
+read_number_asks_nothing κs args = tt
+
+pub write_number_asks_nothing : (κs : _) (args : _) → write-number.Asked κs args
+write_number_asks_nothing κs args = tt

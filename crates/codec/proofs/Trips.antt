@@ -17,7 +17,7 @@ use Rattle.octets.specs.Data.{data_of, places_of, bytes_of, tidy}
 use Rattle.octets.proofs.Datas.{tidy_most, tidy_more, tidy_data, bytes_length, data_bytes}
 use Rattle.codec.specs.declared.Header.{Header}
 use Rattle.codec.specs.declared.Subject.{Subject}
-use Rattle.codec.specs.declared.Answer.TheVariants.{Got, Refused}
+use Rattle.std.specs.Prelude.{Ok, Err}
 use Rattle.codec.specs.declared.Message.{Message}
 use Rattle.codec.specs.declared.Message.TheVariants.{Short, Plain, Fragment}
 use Rattle.codec.specs.Fields.{header_of}
@@ -29,7 +29,7 @@ use Rattle.codec.proofs.Long.{Shape, long_read, long_back, long_carried}
 
 -- ---- what was written is read back
 
-short_read : (d a s : ℕ) → ShortFits d a s → read_of (image_of (Short d a s)) ≡ Got (Short d a s)
+short_read : (d a s : ℕ) → ShortFits d a s → read_of (image_of (Short d a s)) ≡ Ok (Short d a s)
 unfolding image_of frame_of header_of message_of read_of
 short_read d a s f =
     let e0 : (d * 128 + a) / 128 % 2 ≡ d = omega arith in
@@ -49,16 +49,16 @@ fragment_shape n k b t = record {
   numbered = λ z. omega arith;
 }
 
-pub written_read : (m : Message) → carried m ≡ true → read_of (image_of m) ≡ Got m
+pub written_read : (m : Message) → carried m ≡ true → read_of (image_of m) ≡ Ok m
 unfolding carried image_of frame_of long_of
 written_read (Short d a s) e = short_read d a s ((short_fits_lem d a s).0 e)
 written_read (Plain u b) e =
     let f = (and-eq-true_iff (subject_fits u) (tidy 6 b)).0 e in
-    long_read u 0 (bytes_of b) (plain_shape b f.1) ((subject_fits_lem u).0 f.0) ∙ ap (λ (d : Data). Got (Plain u d)) (data_bytes b f.1)
+    long_read u 0 (bytes_of b) (plain_shape b f.1) ((subject_fits_lem u).0 f.0) ∙ ap (λ (d : Data). Ok (Plain u d)) (data_bytes b f.1)
 written_read (Fragment u n k b) e =
     let f = (and-eq-true_iff (subject_fits u) (tidy 4 b)).0 e in
     long_read u 1 (n ∷ k ∷ bytes_of b) (fragment_shape n k b f.1) ((subject_fits_lem u).0 f.0)
-    ∙ ap (λ (d : Data). Got (Fragment u n k d)) (data_bytes b (tidy_more 4 6 b (omega arith) f.1))
+    ∙ ap (λ (d : Data). Ok (Fragment u n k d)) (data_bytes b (tidy_more 4 6 b (omega arith) f.1))
 
 -- ---- what was read is written back
 
@@ -68,14 +68,14 @@ record Read (r : List ℕ) (m : Message) : Type 0 where
   unrefused : first_of (header_checks (header_of r)) ≡ 0
   is : message_of r ≡ m
 
-read_by : (r : List ℕ) (m : Message) → read_of r ≡ Got m → Read r m
+read_by : (r : List ℕ) (m : Message) → read_of r ≡ Ok m → Read r m
 unfolding read_of
 read_by r m e =
     split (eqb (length r) 10)
     (λ t. split (eqb (first_of (header_checks (header_of r))) 0)
-    (λ z. let w : Got (message_of r) ≡ Got m = simp (t, z) at e in record { ten = eqb-true _ _ t; unrefused = eqb-true _ _ z; is = cc })
-    (λ z. let w : Refused (first_of (header_checks (header_of r))) ≡ Got m = simp (t, z) at e in let z : ◌≡◌ {A = ℕ} 0 1 = cc in absurd (omega arith)))
-    (λ t. let w : Refused 1 ≡ Got m = simp t at e in let z : ◌≡◌ {A = ℕ} 0 1 = cc in absurd (omega arith))
+    (λ z. let w : Ok (message_of r) ≡ Ok m = simp (t, z) at e in record { ten = eqb-true _ _ t; unrefused = eqb-true _ _ z; is = cc })
+    (λ z. let w : Err (first_of (header_checks (header_of r))) ≡ Ok m = simp (t, z) at e in let z : ◌≡◌ {A = ℕ} 0 1 = cc in absurd (omega arith)))
+    (λ t. let w : Err 1 ≡ Ok m = simp t at e in let z : ◌≡◌ {A = ℕ} 0 1 = cc in absurd (omega arith))
 
 subject_of_fits : (h : Header) → Ranged h → first_of (header_checks h) ≡ 0 → Long h → subject_fits (subject_of h) ≡ true
 subject_of_fits h g e l = (subject_fits_lem (subject_of h)).1 (record {
@@ -151,13 +151,13 @@ frame_back (a ∷ b ∷ c ∷ i ∷ l) h n e =
     simp z (long_back (subject_of (header_of r)) (header_of r).flag (take ((header_of r).dlc - 2) l) (long_shape r n e g)
     ∙ long_frame_lem a b c i l k (h 0) (h 1) (h 2) e g))
 
-pub read_written : (r : List ℕ) (m : Message) → Bytes r → read_of r ≡ Got m → image_of m ≡ cleared_of r
+pub read_written : (r : List ℕ) (m : Message) → Bytes r → read_of r ≡ Ok m → image_of m ≡ cleared_of r
 unfolding image_of cleared_of
 read_written r m h e =
     let d = read_by r m e in
     rw (← d.is) (ap (padded 10) (frame_back r h d.ten d.unrefused))
 
-pub read_is_carried : (r : List ℕ) (m : Message) → read_of r ≡ Got m → carried m ≡ true
+pub read_is_carried : (r : List ℕ) (m : Message) → read_of r ≡ Ok m → carried m ≡ true
 read_is_carried r m e = let d = read_by r m e in rw (← d.is) (read_carried r d.ten d.unrefused)
 
 -- ---- a written record is a record of bytes
@@ -200,7 +200,7 @@ unfolding carried
 fragment_carried u n k l f h = simp ((subject_fits_lem u).1 f, tidy_data l (omega arith) 4 h)
 
 -- what is read is the record's message
-pub read_message : (r : List ℕ) (m : Message) → read_of r ≡ Got m → message_of r ≡ m
+pub read_message : (r : List ℕ) (m : Message) → read_of r ≡ Ok m → message_of r ≡ m
 read_message r m e = (read_by r m e).is
 
 -- a message that fits is written, whatever the record held

@@ -14,7 +14,7 @@ use Rattle.laws.specs.Put.{Agree}
 use Rattle.laws.proofs.Tests.{split}
 use Rattle.laws.proofs.Bytes.{get_d_past, length_padded}
 use Rattle.laws.proofs.Put.{same_part}
-use Rattle.codec.specs.declared.Answer.TheVariants.{Got}
+use Rattle.std.specs.Prelude.{Ok}
 use Rattle.codec.specs.Names.{frame_size}
 use Rattle.codec.specs.Fields.{header_of}
 use Rattle.codec.specs.Reading.{read_checks, subject_of, long_of, message_of, read_of}
@@ -60,7 +60,7 @@ module _ (r s : List ℕ) (n : length r ≡ frame_size) (m : length s ≡ frame_
   same_read =
       split (eqb (first_of (read_checks r)) 0)
       (λ c. simp (same_checks, c)
-      (ap Got (split (eqb (header_of r).dlc 0)
+      (ap Ok (split (eqb (header_of r).dlc 0)
       (λ z. same_short (eqb-true _ 0 z))
       (λ z. same_long (eqb-true _ 0 c) (eqb-false _ 0 z)))))
       (λ c. simp (same_checks, c))

@@ -1,5 +1,5 @@
 -- Reading a record (01, "Frame record": "The codec reads .."; 000, figures 3.3, 3.13 and 3.14).
-use Rattle.std.specs.Prelude.{ℕ, ◌-◌, Bool, cond, not, ◌&&◌, ◌||◌, List, [], ◌∷◌, length, take, drop, ltb, leb, eqb}
+use Rattle.std.specs.Prelude.{ℕ, ◌-◌, Bool, cond, not, ◌&&◌, ◌||◌, List, [], ◌∷◌, length, take, drop, ltb, leb, eqb, Result, Ok, Err}
 use Rattle.laws.specs.Bytes.{byte_at}
 use Rattle.laws.specs.Checks.{Check, first_of}
 use Rattle.octets.specs.Data.{data_of}
@@ -7,8 +7,8 @@ use Rattle.codec.specs.declared.Header.{Header}
 use Rattle.codec.specs.declared.Subject.{Subject}
 use Rattle.codec.specs.declared.Message.{Message}
 use Rattle.codec.specs.declared.Message.TheVariants.{Short, Plain, Fragment}
-use Rattle.codec.specs.declared.Answer.{Answer}
-use Rattle.codec.specs.declared.Answer.TheVariants.{Got, Refused}
+use Rattle.codec.specs.declared.ReadError.{ReadError}
+use Rattle.codec.specs.declared.ReadError.TheVariants.{Size, Barred, Unserved, Cramped}
 use Rattle.codec.specs.Names.{frame_size, payload_place, most_address, most_dlc, lowest_long}
 use Rattle.codec.specs.Fields.{header_of}
 
@@ -66,10 +66,22 @@ message_of r =
     (long_of (subject_of (header_of r)) (header_of r).flag (payload_of r))
 
 -- the message, or the number of the first refusal that applies
-unfoldable pub read_of : List ℕ → Answer
-read_of r = cond (eqb (first_of (read_checks r)) 0) (Got (message_of r)) (Refused (first_of (read_checks r)))
+unfoldable pub read_of : List ℕ → Result Message ℕ
+read_of r = cond (eqb (first_of (read_checks r)) 0) (Ok (message_of r)) (Err (first_of (read_checks r)))
 
 -- 01's number of an answer: 0 for a message
-abbrev pub number_of : Answer → ℕ
-number_of (Got m) = 0
-number_of (Refused n) = n
+abbrev pub number_of : {A : Type 0} → Result A ℕ → ℕ
+number_of (Ok m) = 0
+number_of (Err n) = n
+
+-- 01's numbers of the code's errors, which have the names of these checks
+abbrev pub read_error_number : ReadError → ℕ
+read_error_number Size = 1
+read_error_number Barred = 3
+read_error_number Unserved = 5
+read_error_number Cramped = 8
+
+-- what the code answers, with 01's number in place of its error
+abbrev pub numbered : {A : Type 0} → Result A ReadError → Result A ℕ
+numbered (Ok m) = Ok m
+numbered (Err e) = Err (read_error_number e)

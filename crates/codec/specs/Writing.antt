@@ -1,11 +1,13 @@
 -- Writing a message (01, "Frame record": "Writing refuses .."; 000, figures 3.3, 3.13 and 3.14).
-use Rattle.std.specs.Prelude.{ℕ, ◌+◌, ◌*◌, ◌<◌, Bool, cond, not, ◌&&◌, List, [], ◌∷◌, ◌++◌, length, take, leb, eqb}
+use Rattle.std.specs.Prelude.{ℕ, ◌+◌, ◌*◌, ◌<◌, Bool, cond, not, ◌&&◌, List, [], ◌∷◌, ◌++◌, length, take, leb, eqb, Result, Ok, Err}
 use Rattle.laws.specs.Checks.{Check, first_of}
 use Rattle.laws.specs.Bytes.{Bytes, padded}
 use Rattle.octets.specs.Data.{most_data, places_of, bytes_of, tidy}
 use Rattle.codec.specs.declared.Subject.{Subject}
 use Rattle.codec.specs.declared.Message.{Message}
 use Rattle.codec.specs.declared.Message.TheVariants.{Short, Plain, Fragment}
+use Rattle.codec.specs.declared.WriteError.{WriteError}
+use Rattle.codec.specs.declared.WriteError.TheVariants as why
 use Rattle.codec.specs.Names.{frame_size, most_address, most_fragment_data, lowest_long}
 use Rattle.codec.specs.Fields.{header_of}
 
@@ -53,6 +55,15 @@ write_checks m r = (not (eqb (length r) frame_size), 1) ∷ (not (carried m), 3)
 
 unfoldable pub write_number : Message → List ℕ → ℕ
 write_number m r = first_of (write_checks m r)
+
+-- the numbers of the code's errors, and 0 where it has written
+abbrev pub write_error_number : WriteError → ℕ
+write_error_number why.Size = 1
+write_error_number why.Unfit = 3
+
+abbrev pub written_number : {A : Type 0} → Result A WriteError → ℕ
+written_number (Ok x) = 0
+written_number (Err e) = write_error_number e
 
 -- the record afterwards: unchanged where writing is refused
 unfoldable pub written_of : Message → List ℕ → List ℕ

@@ -1,12 +1,16 @@
 // The codec: frame records of ten bytes to messages and back (01, "Frame record"; 000, 3.2).
 #![tactic(auto)]
 
+ghost use Rattle.std.specs.Prelude.{◌≡◌};
+ghost use Rattle.codec.specs.Reading.{read_error_number};
+ghost use Rattle.codec.specs.Writing.{write_error_number};
+
 mod heading;
 mod reading;
 mod writing;
 
 pub use heading::{can_bytes, can_of, header_of};
-pub use reading::{payload_in, payload_of, read, refusal_of, subject_of, unprefixed};
+pub use reading::{payload_in, payload_of, read, readable, subject_of, unprefixed};
 pub use writing::{prefixed, put_long, put_short, write};
 
 // The bytes of a record.
@@ -111,9 +115,40 @@ pub enum Message {
     },
 }
 
-// What reading a record gives: its message, or the number of the refusal.
-#[derive(Clone, Copy)]
-pub enum Answer {
-    Got(Message),
-    Refused(u8),
+// Why reading refuses a record, by 01's numbers ("Frame record").
+#[derive(Clone, Copy, PartialEq, Eq)]
+pub enum ReadError {
+    // The record is not ten bytes long.
+    Size = 1,
+    // RTR is 1, the DLC over 8, or the address over 125.
+    Barred = 3,
+    // The DLC is 1, or it is a long form of a service below 4.
+    Unserved = 5,
+    // A fragment without room for its number and total.
+    Cramped = 8,
+}
+
+impl ReadError {
+    pub fn number(self) -> u8
+        ensures { result ≡ read_error_number self }
+    {
+        self as u8
+    }
+}
+
+// Why writing refuses a message, by 01's numbers.
+#[derive(Clone, Copy, PartialEq, Eq)]
+pub enum WriteError {
+    // The record is not ten bytes long.
+    Size = 1,
+    // No readable frame carries the message.
+    Unfit = 3,
+}
+
+impl WriteError {
+    pub fn number(self) -> u8
+        ensures { result ≡ write_error_number self }
+    {
+        self as u8
+    }
 }

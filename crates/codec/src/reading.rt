@@ -1,47 +1,32 @@
-// Reading: a record to its message, or the number of the refusal.
+// Reading: a record to its message, or the reason of the refusal.
 ghost use Rattle.std.specs.Prelude.{◌≡◌, true, cond, [], leb, length};
 ghost use Rattle.laws.specs.Checks.{first_of};
 ghost use Rattle.octets.specs.Data.{most_data, data_of, tidy, bytes_of};
 ghost use Rattle.codec.specs.Names.{frame_size, most_dlc};
-ghost use Rattle.codec.specs.Reading.{header_checks, read_checks, subject_of, payload_to, long_of, read_of};
+ghost use Rattle.codec.specs.Reading.{header_checks, read_checks, subject_of, payload_to, long_of, read_of, number_of, numbered};
 ghost use Rattle.codec.specs.Code.{payload_data, payload_in, unprefixed};
 
 use crate::heading::header_of;
 use crate::{
-    Answer, FRAME_SIZE, Header, LOWEST_LONG, MOST_ADDRESS, MOST_DLC, Message, PAYLOAD_PLACE,
+    FRAME_SIZE, Header, LOWEST_LONG, MOST_ADDRESS, MOST_DLC, Message, PAYLOAD_PLACE, ReadError,
     Subject,
 };
 use octets::{Data, data_from, no_data};
 
-// Why a record of ten bytes with this header is refused; 0 where it is read. The order is 01's.
-fn refusal(h: Header) -> u8
-    ensures { result ≡ first_of (header_checks h) }
+// Whether a record of ten bytes with this header is read, or why not. The order is 01's.
+fn served(h: Header) -> Result<(), ReadError>
+    ensures { number_of (numbered result) ≡ first_of (header_checks h) }
 {
-    if h.rtr == 1 {
-        return 3;
+    if h.rtr == 1 || MOST_DLC < h.dlc || MOST_ADDRESS < h.address {
+        return Err(ReadError::Barred);
     }
-    if MOST_DLC < h.dlc {
-        return 3;
+    if h.dlc == 1 || (2 <= h.dlc && h.service < LOWEST_LONG) {
+        return Err(ReadError::Unserved);
     }
-    if MOST_ADDRESS < h.address {
-        return 3;
+    if 2 <= h.dlc && h.flag == 1 && h.dlc < 4 {
+        return Err(ReadError::Cramped);
     }
-    if h.dlc == 1 {
-        return 5;
-    }
-    if h.dlc < 2 {
-        return 0;
-    }
-    if h.service < LOWEST_LONG {
-        return 5;
-    }
-    if h.flag != 1 {
-        return 0;
-    }
-    if h.dlc < 4 {
-        return 8;
-    }
-    0
+    Ok(())
 }
 
 // What a long message says of itself, from its header.
@@ -134,31 +119,28 @@ fn long_of(about: Subject, flag: u8, payload: Data) -> Message
     }
 }
 
-// Why a record is refused: 1 (not ten bytes), 3, 5 or 8, the first that applies; 0 where it is read.
-pub fn refusal_of(frame: &[u8]) -> u8
-    ensures { result ≡ first_of (read_checks frame.now) }
+// Whether a record is read, or why not: the first error that applies.
+pub fn readable(frame: &[u8]) -> Result<(), ReadError>
+    ensures { number_of (numbered result) ≡ first_of (read_checks frame.now) }
 {
     if frame.len() != FRAME_SIZE {
-        return 1;
+        return Err(ReadError::Size);
     }
-    refusal(header_of(frame))
+    served(header_of(frame))
 }
 
 // The message of a record, or why it is refused.
-pub fn read(frame: &[u8]) -> Answer
-    ensures { result ≡ read_of frame.now }
+pub fn read(frame: &[u8]) -> Result<Message, ReadError>
+    ensures { numbered result ≡ read_of frame.now }
 {
-    let n = refusal_of(frame);
-    if n != 0 {
-        return Answer::Refused(n);
-    }
+    readable(frame)?;
     let h = header_of(frame);
     if h.dlc == 0 {
-        return Answer::Got(Message::Short {
+        return Ok(Message::Short {
             dir: h.dir,
             address: h.address,
             service: h.service,
         });
     }
-    Answer::Got(long_of(subject_of(h), h.flag, payload_of(frame)))
+    Ok(long_of(subject_of(h), h.flag, payload_of(frame)))
 }

@@ -1,10 +1,12 @@
 // Writing: a message to the ten bytes of a record that carries it.
 ghost use Rattle.std.specs.Prelude.{◌≡◌, cond, ◌&&◌, ◌∷◌};
 ghost use Rattle.octets.specs.Data.{places_of, tidy};
-ghost use Rattle.codec.specs.Writing.{subject_fits, short_fits, write_number, written_of};
+ghost use Rattle.codec.specs.Writing.{subject_fits, short_fits, write_number, written_number, written_of};
 ghost use Rattle.codec.specs.Code.{prefixed, put_ten, put_long, put_short};
 
-use crate::{FRAME_SIZE, LOWEST_LONG, MOST_ADDRESS, MOST_FRAGMENT_DATA, Message, Subject};
+use crate::{
+    FRAME_SIZE, LOWEST_LONG, MOST_ADDRESS, MOST_FRAGMENT_DATA, Message, Subject, WriteError,
+};
 use octets::{Data, is_tidy, no_data};
 
 fn subject_fits(u: Subject) -> bool
@@ -109,34 +111,40 @@ pub fn put_short(dir: u8, address: u8, service: u8, frame: &mut [u8])
 }
 
 // Writes a short form, if it fits.
-fn write_short(dir: u8, address: u8, service: u8, frame: &mut [u8]) -> u8
-    ensures { (result ≡ cond (short_fits dir address service) 0 3)
+fn write_short(dir: u8, address: u8, service: u8, frame: &mut [u8]) -> Result<(), WriteError>
+    ensures { (written_number result ≡ cond (short_fits dir address service) 0 3)
         × (frame.new ≡ cond (short_fits dir address service) (put_short dir address service frame.old) frame.old) }
 {
     if short_fits(dir, address, service) {
         put_short(dir, address, service, frame);
-        return 0;
+        return Ok(());
     }
-    3
+    Err(WriteError::Unfit)
 }
 
 // Writes a long form, if its message fits.
-fn write_long(fits: bool, u: Subject, flag: u8, payload: Data, frame: &mut [u8]) -> u8
-    ensures { (result ≡ cond fits 0 3) × (frame.new ≡ cond fits (put_long u flag payload frame.old) frame.old) }
+fn write_long(
+    fits: bool,
+    u: Subject,
+    flag: u8,
+    payload: Data,
+    frame: &mut [u8],
+) -> Result<(), WriteError>
+    ensures { (written_number result ≡ cond fits 0 3) × (frame.new ≡ cond fits (put_long u flag payload frame.old) frame.old) }
 {
     if fits {
         put_long(u, flag, payload, frame);
-        return 0;
+        return Ok(());
     }
-    3
+    Err(WriteError::Unfit)
 }
 
-// Writes the record that carries a message, and answers 0. Refused are 1 (not ten bytes) and then 3 (no readable frame carries it), and the record stays.
-pub fn write(m: Message, frame: &mut [u8]) -> u8
-    ensures { (result ≡ write_number m frame.old) × (frame.new ≡ written_of m frame.old) }
+// Writes the record that carries a message, or says why not, and the record stays.
+pub fn write(m: Message, frame: &mut [u8]) -> Result<(), WriteError>
+    ensures { (written_number result ≡ write_number m frame.old) × (frame.new ≡ written_of m frame.old) }
 {
     if frame.len() != FRAME_SIZE {
-        return 1;
+        return Err(WriteError::Size);
     }
     match m {
         Message::Short {

@@ -16,7 +16,7 @@ use Rattle.octets.specs.Data.{data_of}
 use Rattle.codec.specs.declared.Subject.{Subject}
 use Rattle.codec.specs.declared.Message.{Message}
 use Rattle.codec.specs.declared.Message.TheVariants.{Short, Plain, Fragment}
-use Rattle.codec.specs.declared.Answer.TheVariants.{Got, Refused}
+use Rattle.std.specs.Prelude.{Ok, Err}
 use Rattle.codec.specs.Names.{most_address, most_fragment_data, read_service, successful}
 use Rattle.codec.specs.Fields.{header_of}
 use Rattle.codec.specs.Reading.{read_checks, subject_of, payload_of, message_of, read_of}
@@ -49,12 +49,12 @@ unfolding judged_of
 malformed_judged size r s e = simp (eq-eqb size collect_size s, ne_eqb (first_of (read_checks r)) 0 e)
 
 -- 3 to 5, by the form of the message
-pub as_read : (r : List ℕ) (m : Message) → read_of r ≡ Got m → eqb (first_of (read_checks r)) 0 ≡ true
+pub as_read : (r : List ℕ) (m : Message) → read_of r ≡ Ok m → eqb (first_of (read_checks r)) 0 ≡ true
 unfolding read_of
 as_read r m e =
     split (eqb (first_of (read_checks r)) 0)
     (λ t. t)
-    (λ t. let none : Refused (first_of (read_checks r)) ≡ Got m = simp t at e in let q : ◌≡◌ {A = ℕ} 0 1 = cc in absurd (omega arith))
+    (λ t. let none : Err (first_of (read_checks r)) ≡ Ok m = simp t at e in let q : ◌≡◌ {A = ℕ} 0 1 = cc in absurd (omega arith))
 
 abbrev form_checks : Message → List Check
 form_checks m = (no_read_response m, 3) ∷ (no_total m, 4) ∷ (bad_shape m, 5) ∷ []
@@ -70,16 +70,16 @@ by_form (Fragment u number total b) =
     (λ z. split (wrong_piece total number b.len) (λ w. simp (t, z, w)) (λ w. simp (t, z, w))))
     (λ t. simp t)
 
-pub message_judged_lem : (size : ℕ) (r : List ℕ) (m : Message) → size ≡ collect_size → read_of r ≡ Got m → judged_of size r ≡ message_judged m
+pub message_judged_lem : (size : ℕ) (r : List ℕ) (m : Message) → size ≡ collect_size → read_of r ≡ Ok m → judged_of size r ≡ message_judged m
 unfolding judged_of
 message_judged_lem size r m s e = rw (read_message r m e) (simp (eq-eqb size collect_size s, as_read r m e) (by_form m))
 
 -- the guest of a long message that the codec reads has a record
-pub plain_below : (r : List ℕ) (u : Subject) (b : Data) → read_of r ≡ Got (Plain u b) → u.address ≤ most_address
+pub plain_below : (r : List ℕ) (u : Subject) (b : Data) → read_of r ≡ Ok (Plain u b) → u.address ≤ most_address
 unfolding carried
 plain_below r u b e = ((subject_fits_lem u).0 (halves (subject_fits u) (read_is_carried r (Plain u b) e)).0).address
 
-pub fragment_below : (r : List ℕ) (u : Subject) (number total : ℕ) (b : Data) → read_of r ≡ Got (Fragment u number total b) → u.address ≤ most_address
+pub fragment_below : (r : List ℕ) (u : Subject) (number total : ℕ) (b : Data) → read_of r ≡ Ok (Fragment u number total b) → u.address ≤ most_address
 unfolding carried
 fragment_below r u number total b e = ((subject_fits_lem u).0 (halves (subject_fits u) (read_is_carried r (Fragment u number total b) e)).0).address
 

@@ -20,7 +20,7 @@ use Rattle.octets.specs.Data.{bytes_of}
 use Rattle.codec.specs.declared.Subject.{Subject}
 use Rattle.codec.specs.declared.Message.{Message}
 use Rattle.codec.specs.declared.Message.TheVariants.{Short, Plain, Fragment}
-use Rattle.codec.specs.declared.Answer.TheVariants.{Got}
+use Rattle.std.specs.Prelude.{Ok}
 use Rattle.codec.specs.Reading.{message_of, read_of}
 use Rattle.join.specs.Work.{base, Piece, load, last, Joined, kept, done, lost, astray, joined, dropped, area_after}
 use Rattle.join.specs.History.{chain, completes, message, Completes}
@@ -114,7 +114,7 @@ six_drops r work =
     (λ t. split (leb n 3) (λ l. simp (t, l) (λ e. absurd (omega (arith, few)))) (λ l. simp (t, l) (λ e. absurd (omega (arith, few)))))
 
 -- "A whole frame is handed over at once and doesn't disturb a filling record"; its bytes are the frame's data
-pub whole_handed_over : (r work : List ℕ) (u : Subject) (b : Data) → Good work → read_of r ≡ Got (Plain u b) → answers_read u ≡ true → b.len ≢ 0
+pub whole_handed_over : (r work : List ℕ) (u : Subject) (b : Data) → Good work → read_of r ≡ Ok (Plain u b) → answers_read u ≡ true → b.len ≢ 0
     → (seen_of r work ≡ (gives 0 (Whole u.address u.object u.id b.len) false, bytes_of b)) × (work_of r work ≡ work)
 unfolding message_judged whole_judged answer_to work_after part_of
 whole_handed_over r work u b g e a n =

@@ -13,7 +13,7 @@ use Rattle.octets.specs.declared.Data.{Data}
 use Rattle.codec.specs.declared.Subject.{Subject}
 use Rattle.codec.specs.declared.Message.{Message}
 use Rattle.codec.specs.declared.Message.TheVariants.{Short, Plain, Fragment}
-use Rattle.codec.specs.declared.Answer.TheVariants.{Got}
+use Rattle.std.specs.Prelude.{Ok}
 use Rattle.codec.specs.Names.{payload_place, most_address}
 use Rattle.octets.specs.Data.{bytes_of}
 use Rattle.codec.specs.Fields.{header_of}
@@ -32,7 +32,7 @@ use Rattle.collect.proofs.Groups.{malformed_judged, as_read, message_judged_lem,
 use Rattle.collect.proofs.Taking.{fits}
 
 -- the data of a plain message that the codec reads: where they stand in its record
-module _ (r : List ℕ) (u : Subject) (b : Data) (e : read_of r ≡ Got (Plain u b)) where
+module _ (r : List ℕ) (u : Subject) (b : Data) (e : read_of r ≡ Ok (Plain u b)) where
   its_message : message_of r ≡ Plain u b
   its_message = read_message r (Plain u b) e
 
@@ -82,7 +82,7 @@ fragment_sound r u number total b h =
     (λ z. simp z h)
     (λ z. split (wrong_piece total number b.len) (λ w. simp (z, w) h) (λ w. simp (z, w) (h, fits u number total b w)))
 
-message_sound : (r : List ℕ) (m : Message) → read_of r ≡ Got m → Sound r (message_judged m)
+message_sound : (r : List ℕ) (m : Message) → read_of r ≡ Ok m → Sound r (message_judged m)
 unfolding message_judged
 message_sound r (Short dir address service) e = tt
 message_sound r (Plain u b) e =

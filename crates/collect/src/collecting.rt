@@ -151,7 +151,7 @@ pub fn collect(frame: &[u8], work: &mut [u8]) -> Collected
     if work.len() != AREA {
         return refused(1, false);
     }
-    if codec::refusal_of(frame) != 0 {
+    if codec::readable(frame).is_err() {
         return refused(2, false);
     }
     let h = codec::header_of(frame);

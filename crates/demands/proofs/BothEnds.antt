@@ -17,7 +17,7 @@ use Rattle.octets.specs.Data.{most_data, data_of}
 use Rattle.octets.proofs.Datas.{bytes_data}
 use Rattle.codec.specs.declared.Header.{Header}
 use Rattle.codec.specs.declared.Subject.{Subject}
-use Rattle.codec.specs.declared.Answer.TheVariants.{Got}
+use Rattle.std.specs.Prelude.{Ok}
 use Rattle.codec.specs.declared.Message.TheVariants.{Plain}
 use Rattle.codec.specs.Names.{most_address, read_service, successful}
 use Rattle.codec.specs.Fields.{header_of}
@@ -255,7 +255,7 @@ module _ (c : Call) (free : (n : ℕ) → holds_at (checks_of c) n ≡ false) (a
   }
 
 -- a frame in long form is not read as a short one
-long_is_not_short : (r : List ℕ) → ((header_of r).dlc ≡ 0 → ⊥) → read_of r ≡ Got (short_of (header_of r)) → ⊥
+long_is_not_short : (r : List ℕ) → ((header_of r).dlc ≡ 0 → ⊥) → read_of r ≡ Ok (short_of (header_of r)) → ⊥
 long_is_not_short r z e =
     let says = read_message r (short_of (header_of r)) e in
     split (eqb (header_of r).flag 1)

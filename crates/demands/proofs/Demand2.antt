@@ -17,8 +17,7 @@ use Rattle.laws.proofs.Checks.{none_holds, holds_append}
 use Rattle.octets.specs.declared.Data.{Data}
 use Rattle.octets.specs.Data.{most_data, data_of}
 use Rattle.codec.specs.declared.Header.{Header}
-use Rattle.codec.specs.declared.Answer.{Answer}
-use Rattle.codec.specs.declared.Answer.TheVariants.{Got}
+use Rattle.std.specs.Prelude.{Result, Ok}
 use Rattle.codec.specs.declared.Message.{Message}
 use Rattle.codec.specs.declared.Message.TheVariants.{Short, Plain, Fragment}
 use Rattle.codec.specs.Names.{most_address, write_off, write_on, lowest_long, successful, erroneous}
@@ -45,29 +44,29 @@ use Rattle.demands.proofs.Demand1.{refused_has_entry, demand_1}
 -- ---- the codec, alone
 
 -- reading what was written gives the message
-pub written_is_read : (m : Message) (r : List ℕ) → write_number m r ≡ 0 → read_of (written_of m r) ≡ Got m
+pub written_is_read : (m : Message) (r : List ℕ) → write_number m r ≡ 0 → read_of (written_of m r) ≡ Ok m
 written_is_read = codec.written_is_read
 
 -- writing what was read gives the record, with its unused bytes cleared
-pub read_is_written : (r : List ℕ) (m : Message) → Bytes r → read_of r ≡ Got m
+pub read_is_written : (r : List ℕ) (m : Message) → Bytes r → read_of r ≡ Ok m
     → (s : List ℕ) → length s ≡ 10 → (write_number m s ≡ 0) × (written_of m s ≡ cleared_of r)
 read_is_written = codec.read_is_written
 
 -- ---- what the frames of an answer say
 
 -- the short acknowledge of a short Write, as the message that was meant
-pub short_acknowledge_says : (own : ℕ) (h : Header) → own ≤ most_address → read_of (short_frame own h) ≡ Got (Short 1 own (acknowledge_of h))
+pub short_acknowledge_says : (own : ℕ) (h : Header) → own ≤ most_address → read_of (short_frame own h) ≡ Ok (Short 1 own (acknowledge_of h))
 short_acknowledge_says = short_reads
 
 -- the others: own address, service, object and ID are those that the checks let through
 
 module _ (own : ℕ) (h : Header) (o : own ≤ most_address) (l : lowest_long ≤ h.service) (m : h.service ≤ 7) (b : h.object ≤ 31) where
   -- an error frame reads as Error, flag clear, and one byte, the code of the refusal
-  pub error_says : (number : ℕ) → read_of (error_frame own h number) ≡ Got (Plain (answering own h erroneous) (data_of (code_of number ∷ [])))
+  pub error_says : (number : ℕ) → read_of (error_frame own h number) ≡ Ok (Plain (answering own h erroneous) (data_of (code_of number ∷ [])))
   error_says = error_reads own h o l m b
 
   -- the answer to a Write as Successful, flag clear, no data
-  pub success_says : read_of (success_frame own h) ≡ Got (Plain (answering own h successful) (data_of []))
+  pub success_says : read_of (success_frame own h) ≡ Ok (Plain (answering own h successful) (data_of []))
   success_says = success_reads own h o l m b
 
   module _ (bs : List ℕ) where
@@ -76,12 +75,12 @@ module _ (own : ℕ) (h : Header) (o : own ≤ most_address) (l : lowest_long �
     read_counts = read_count own h bs
 
     -- the one frame of up to six bytes says all of them
-    pub whole_says : length bs ≤ most_data → (f : List ℕ) → read_frames own h bs ≡ f ∷ [] → read_of f ≡ Got (Plain (answering own h successful) (data_of bs))
+    pub whole_says : length bs ≤ most_data → (f : List ℕ) → read_frames own h bs ≡ f ∷ [] → read_of f ≡ Ok (Plain (answering own h successful) (data_of bs))
     whole_says = whole_reads own h o l m b bs
 
     -- above, frame n says that it is fragment n of so many bytes, and its own
     pub fragment_says : most_data < length bs → (n : ℕ) → n < fragment_count (length bs)
-        → read_of (get_or (read_frames own h bs) n []) ≡ Got (Fragment (answering own h successful) n (length bs) (data_of (fragment_part bs n)))
+        → read_of (get_or (read_frames own h bs) n []) ≡ Ok (Fragment (answering own h successful) n (length bs) (data_of (fragment_part bs n)))
     fragment_says = nth_reads own h o l m b bs
 
     -- together they carry the attribute's bytes, all of them and in order
@@ -144,7 +143,7 @@ module _ (c : Call) where
           switched (record {
             attribute = a;
             on = eqb (header_of c.frame).service write_on;
-            says = m ∙ ap {B = Answer} Got (short_says (header_of c.frame) (free 4) (ranged c.frame).dir z.asked);
+            says = m ∙ ap {B = Result Message ℕ} Ok (short_says (header_of c.frame) (free 4) (ranged c.frame).dir z.asked);
             first = z.found;
             single = z.single;
             may = z.may;

@@ -1,4 +1,5 @@
 -- The five useless devices (01, "What the guarantees have to determine"): each is shut out by the demand that 01 names, whatever else it does.
+use Rattle.std.proofs.Common.{Option, Some, None}
 use Prim.Native.Nat.{ℕ, suc}
 use mathlib.Core.Path.{◌≡◌, refl, sym, ap, ◌∙◌}
 use mathlib.Core.Logic.{◌≢◌}
@@ -12,14 +13,13 @@ use Rattle.laws.specs.Put.{put}
 use Rattle.laws.specs.Mixing.{run}
 use Rattle.laws.proofs.Checks.{none_holds}
 use Rattle.octets.specs.Data.{bytes_of}
+use Rattle.codec.specs.declared.Message.{Message}
 use Rattle.codec.specs.declared.Message.TheVariants.{Short, Plain, Fragment}
-use Rattle.codec.specs.declared.Answer.{Answer}
-use Rattle.codec.specs.declared.Answer.TheVariants.{Got, Refused}
+use Rattle.std.specs.Prelude.{Result, Ok, Err}
 use Rattle.codec.specs.Fields.{header_of}
 use Rattle.codec.specs.Reading.{read_of}
-use Rattle.table.specs.declared.Found.{Found}
-use Rattle.table.specs.declared.Found.TheVariants.{At, Nothing}
 use Rattle.join.specs.History.{chain, gather, message}
+use Rattle.table.specs.declared.Attribute.{Attribute}
 use Rattle.guest.specs.Step.{Areas, areas, Call, Outcome, outcome, outcome_of}
 use Rattle.guest.specs.History.{shown}
 use Rattle.demands.specs.Demand1.{Device, checks_of}
@@ -43,15 +43,15 @@ unfolding computing
 unrefused = (none_holds (checks_of at_p1) refl).0 refl
 
 -- what a search finds and a frame says, by its places
-offset_of : Found → ℕ
-offset_of (At a) = a.offset
-offset_of Nothing = 0
+offset_of : Option Attribute → ℕ
+offset_of (Some a) = a.offset
+offset_of None = 0
 
-plain_bytes : Answer → List ℕ
-plain_bytes (Got (Short dir address service)) = []
-plain_bytes (Got (Plain u b)) = bytes_of b
-plain_bytes (Got (Fragment u number total b)) = []
-plain_bytes (Refused n) = []
+plain_bytes : Result Message ℕ → List ℕ
+plain_bytes (Ok (Short dir address service)) = []
+plain_bytes (Ok (Plain u b)) = bytes_of b
+plain_bytes (Ok (Fragment u number total b)) = []
+plain_bytes (Err n) = []
 
 module _ (D : Device) (meets : Demand2 D) where
   -- demand 2 leaves one outcome
@@ -60,13 +60,13 @@ module _ (D : Device) (meets : Demand2 D) where
   p1_met = go (meets.serves at_p1 unrefused)
     where
       go : Served at_p1 (D at_p1) → D at_p1 ≡ after_p1
-      go (switched z) = let q : ◌≡◌ {A = ℕ} 2 0 = ap (λ (m : Answer). length (plain_bytes m)) z.says in absurd (omega arith)
+      go (switched z) = let q : ◌≡◌ {A = ℕ} 2 0 = ap (λ (m : Result Message ℕ). length (plain_bytes m)) z.says in absurd (omega arith)
       go (read z) = let q : ◌≡◌ {A = ℕ} 4 5 = z.asked in absurd (omega arith)
       go (written z) =
           let at : z.attribute.offset ≡ 33 = ap offset_of (sym z.named) in
           let bytes : bytes_of z.body ≡ 0x2C ∷ 0x01 ∷ [] = ap plain_bytes (sym z.says) in
           z.leaves ∙ rw (at, bytes)
-      go (fragment z) = let q : ◌≡◌ {A = ℕ} 2 0 = ap (λ (m : Answer). length (plain_bytes m)) z.says in absurd (omega arith)
+      go (fragment z) = let q : ◌≡◌ {A = ℕ} 2 0 = ap (λ (m : Result Message ℕ). length (plain_bytes m)) z.says in absurd (omega arith)
 
   -- "One that always answers 4"
   pub always_four : ((c : Call) → (D c).number ≡ 4) → ⊥

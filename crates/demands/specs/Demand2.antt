@@ -3,19 +3,17 @@
 -- The layout is said by the definitions of `codec` (000's figures) and `table` (001, section 5), and what is promised of them alone stands in
 -- proofs/Demand2. Here stands what is promised of any device: that a frame which no check refuses is served as 01 says, that the count is tied to the
 -- frames put, and that an error frame says why.
-use Rattle.std.specs.Prelude.{ℕ, ◌*◌, ◌≤◌, ◌≡◌, ◌≢◌, Bool, true, false, cond, List, [], ◌∷◌, length, get_or, take, drop}
+use Rattle.std.specs.Prelude.{ℕ, ◌*◌, ◌≤◌, ◌≡◌, ◌≢◌, Bool, true, false, cond, List, [], ◌∷◌, length, get_or, take, drop, Some, Ok}
 use Rattle.laws.specs.Checks.{holds_at}
 use Rattle.octets.specs.declared.Data.{Data}
 use Rattle.octets.specs.Data.{data_of, bytes_of}
 use Rattle.codec.specs.declared.Subject.{Subject}
 use Rattle.codec.specs.declared.Message.TheVariants.{Short, Plain, Fragment}
-use Rattle.codec.specs.declared.Answer.TheVariants.{Got}
 use Rattle.codec.specs.Names.{write_off, write_on, write_off_ack, write_on_ack, write_service, read_service, erroneous}
 use Rattle.codec.specs.Fields.{header_of}
 use Rattle.codec.specs.Reading.{read_of}
 use Rattle.codec.specs.Writing.{image_of}
 use Rattle.table.specs.declared.Attribute.{Attribute}
-use Rattle.table.specs.declared.Found.TheVariants.{At}
 use Rattle.table.specs.Table.{writable, find, first_network, single_boolean, part_of}
 use Rattle.join.specs.Work.{Joined, lost}
 use Rattle.join.specs.History.{Shaped}
@@ -39,7 +37,7 @@ pub record Sent (c : Call) (o : Outcome) : Type 0 where
 
 -- the attribute of the table that a call's frame names
 abbrev pub Names : Call → Attribute → Type 0
-Names c a = find c.table (header_of c.frame).object (header_of c.frame).id ≡ At a
+Names c a = find c.table (header_of c.frame).object (header_of c.frame).id ≡ Some a
 
 -- what an effect leaves of a call
 abbrev pub left_by : Effect → Call → Outcome
@@ -59,7 +57,7 @@ pub record ServedWrite (c : Call) (o : Outcome) : Type 0 where
   pub about : Subject
   pub body : Data
   pub asked : (header_of c.frame).service ≡ write_service
-  pub says : read_of c.frame ≡ Got (Plain about body)
+  pub says : read_of c.frame ≡ Ok (Plain about body)
   pub named : Names c attribute
   pub whole : length (bytes_of body) ≡ attribute.len
   pub leaves : o ≡ left_by (write attribute (bytes_of body) plain) c
@@ -72,7 +70,7 @@ pub record ServedFragment (c : Call) (o : Outcome) : Type 0 where
   pub total : ℕ
   pub body : Data
   pub asked : (header_of c.frame).service ≡ write_service
-  pub says : read_of c.frame ≡ Got (Fragment about number total body)
+  pub says : read_of c.frame ≡ Ok (Fragment about number total body)
   pub named : Names c attribute
   pub shaped : Shaped joiner (piece_of attribute.id number total body)
   pub whole : total ≡ attribute.len
@@ -86,8 +84,8 @@ pub record ServedFragment (c : Call) (o : Outcome) : Type 0 where
 pub record ServedShort (c : Call) (o : Outcome) : Type 0 where
   pub attribute : Attribute
   pub on : Bool
-  pub says : read_of c.frame ≡ Got (Short 0 c.own (cond on write_on write_off))
-  pub first : first_network c.table 0 ≡ At attribute
+  pub says : read_of c.frame ≡ Ok (Short 0 c.own (cond on write_on write_off))
+  pub first : first_network c.table 0 ≡ Some attribute
   pub single : single_boolean attribute ≡ true
   pub may : writable attribute ≡ true
   pub takes : get_or o.left.store attribute.offset 0 ≡ cond on 1 0
@@ -106,7 +104,7 @@ pub data Served (c : Call) (o : Outcome) : Type 0 where
 pub record SaysWhy (c : Call) (o : Outcome) : Type 0 where
   pub code : ℕ
   pub entry : entries_of o.number error_codes ≡ (o.number, code) ∷ []
-  pub says : read_of (take 10 o.out) ≡ Got (Plain (answering c.own (header_of c.frame) erroneous) (data_of (code ∷ [])))
+  pub says : read_of (take 10 o.out) ≡ Ok (Plain (answering c.own (header_of c.frame) erroneous) (data_of (code ∷ [])))
 
 pub record Demand2 (D : Device) : Type 0 where
   pub sends : (c : Call) → Sent c (D c)

@@ -1,4 +1,5 @@
 -- What carrying out a plan leaves, from what each part of it leaves; and so a call.
+use Rattle.std.proofs.Common.{Option, Some, None}
 use Prim.Native.Nat.{ℕ, ◌+◌, ◌<◌, ◌≤◌}
 use mathlib.Core.Path.{◌≡◌, refl, ap, sym, subst, ◌∙◌}
 use mathlib.Core.Bool.{Bool, true, false, cond, not}
@@ -15,8 +16,6 @@ use Rattle.codec.specs.declared.Header.{Header}
 use Rattle.codec.specs.Names.{most_address}
 use Rattle.codec.specs.Fields.{header_of}
 use Rattle.table.specs.declared.Attribute.{Attribute}
-use Rattle.table.specs.declared.Found.{Found}
-use Rattle.table.specs.declared.Found.TheVariants.{At, Nothing}
 use Rattle.table.specs.Table.{well_formed, part_of}
 use Rattle.table.proofs.Tables.{network_placed, single_byte}
 use Rattle.join.specs.Work.{record_size, base, load, astray, last, Joined, kept, done, lost, joined, dropped}
@@ -116,14 +115,14 @@ module _ (p : Plan) (own : ℕ) (h : Header) (store work out : List ℕ) (r : Re
 
 -- ---- a short form
 
-module _ (table : List ℕ) (own : ℕ) (h : Header) (store out : List ℕ) (f : Found) (e : f ≡ point_for table h) (work : List ℕ) where
+module _ (table : List ℕ) (own : ℕ) (h : Header) (store out : List ℕ) (f : Option Attribute) (e : f ≡ point_for table h) (work : List ℕ) where
   abbrev switches_to : Outcome
   switches_to = switched_out table own h (areas store work) out
 
-  pub untaken_outcome : f ≡ Nothing → outcome 5 0 (areas store work) out ≡ switches_to
+  pub untaken_outcome : f ≡ None → outcome 5 0 (areas store work) out ≡ switches_to
   untaken_outcome n = rw (← e, n) (sym (ignored own h (areas store work) out 5))
 
-  pub switch_outcome : SwitchReady own table (length store) (length out) → (a : Attribute) → f ≡ At a → (state : ℕ) → state ≡ state_of h
+  pub switch_outcome : SwitchReady own table (length store) (length out) → (a : Attribute) → f ≡ Some a → (state : ℕ) → state ≡ state_of h
       → (x o : List ℕ) → x ≡ stored_state a state store → o ≡ short_acknowledged own h out → outcome 0 1 (areas x work) o ≡ switches_to
   unfolding outcome_of perform reply_to
   switch_outcome r a n state is x o c s =

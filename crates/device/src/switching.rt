@@ -5,7 +5,6 @@ ghost use Rattle.device.specs.Code.{SwitchReady, switched_out};
 
 use crate::Reply;
 use codec::Header;
-use table::Found;
 
 // Check 5 of a frame in short form that passes checks 1 to 4, and what is done and answered where it passes.
 pub(crate) fn switch(own: u8, table: &[u8], h: Header, store: &mut [u8], out: &mut [u8]) -> Reply
@@ -13,7 +12,7 @@ pub(crate) fn switch(own: u8, table: &[u8], h: Header, store: &mut [u8], out: &m
     ensures { (work : List ℕ) → outcome result.number result.count (areas store.new work) out.new
         ≡ switched_out table.now own h (areas store.old work) out.old }
 {
-    let Found::At(to) = judge::point_for(table, h) else {
+    let Some(to) = judge::point_for(table, h) else {
         return Reply {
             number: 5,
             count: 0,

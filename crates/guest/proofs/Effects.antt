@@ -1,4 +1,5 @@
 -- What each number alters.
+use Rattle.std.proofs.Common.{Option, Some, None}
 use Prim.Native.Nat.{ℕ, ◌≤◌}
 use mathlib.Core.Path.{◌≡◌, refl, ap}
 use mathlib.Core.Option.{none, some}
@@ -16,9 +17,8 @@ use Rattle.codec.specs.declared.Message.TheVariants.{Short, Plain, Fragment}
 use Rattle.codec.specs.Names.{read_service}
 use Rattle.codec.specs.Fields.{header_of}
 use Rattle.codec.specs.Reading.{message_of}
-use Rattle.table.specs.declared.Found.{Found}
-use Rattle.table.specs.declared.Found.TheVariants.{At, Nothing}
 use Rattle.join.specs.Work.{Piece, Joined, kept, done, lost, base, dropped}
+use Rattle.table.specs.declared.Attribute.{Attribute}
 use Rattle.guest.specs.declared.Plan.{Plan}
 use Rattle.guest.specs.declared.Plan.TheVariants.{Error, Read, Write, Join}
 use Rattle.guest.specs.Checks.{Setting, in_short, piece_of, sought_in, plan_checks}
@@ -37,21 +37,21 @@ InRange (quiet n) = (1 ≤ n) × (n ≤ 6)
 InRange (switches a state) = Unit {0}
 InRange (asks p) = PlanInRange p
 
-served_in_range : (h : Header) (m : Message) (f : Found) → PlanInRange (served h m f)
-served_in_range h m Nothing = omega arith
-served_in_range h m (At a) = split (eqb h.service read_service) (λ t. simp t tt) (λ t. simp t (go m))
+served_in_range : (h : Header) (m : Message) (f : Option Attribute) → PlanInRange (served h m f)
+served_in_range h m None = omega arith
+served_in_range h m (Some a) = split (eqb h.service read_service) (λ t. simp t tt) (λ t. simp t (go m))
   where
     go : (m : Message) → PlanInRange (served_write a m)
     go (Short d q v) = omega arith
     go (Plain u b) = tt
     go (Fragment u number total b) = tt
 
-passing_in_range : (h : Header) (m : Message) (f : Found) → InRange (passing h m f)
+passing_in_range : (h : Header) (m : Message) (f : Option Attribute) → InRange (passing h m f)
 passing_in_range h m f = split (in_short h) (λ l. simp l (go f)) (λ l. simp l (served_in_range h m f))
   where
-    go : (f : Found) → InRange (switched h f)
-    go Nothing = omega arith
-    go (At a) = tt
+    go : (f : Option Attribute) → InRange (switched h f)
+    go None = omega arith
+    go (Some a) = tt
 
 in_range : (s : Setting) (r : List ℕ) → InRange (judged_of s r)
 unfolding judged_of

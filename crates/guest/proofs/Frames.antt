@@ -14,7 +14,7 @@ use Rattle.octets.specs.Data.{data_of}
 use Rattle.octets.proofs.Datas.{bytes_data}
 use Rattle.codec.specs.declared.Header.{Header}
 use Rattle.codec.specs.declared.Subject.{Subject}
-use Rattle.codec.specs.declared.Answer.TheVariants.{Got}
+use Rattle.std.specs.Prelude.{Ok}
 use Rattle.codec.specs.declared.Message.TheVariants.{Short, Plain, Fragment}
 use Rattle.codec.specs.Names.{most_address, write_on, lowest_long, successful, erroneous}
 use Rattle.codec.specs.Fields.{header_of}
@@ -154,18 +154,18 @@ acknowledge_fits own h o = record { dir = omega arith; address = o; service = mo
     most : acknowledge_of h ≤ 7
     most = split (eqb h.service write_on) (λ t. simp t (omega arith)) (λ t. simp t (omega arith))
 
-pub short_reads : (own : ℕ) (h : Header) → own ≤ most_address → read_of (short_frame own h) ≡ Got (Short 1 own (acknowledge_of h))
+pub short_reads : (own : ℕ) (h : Header) → own ≤ most_address → read_of (short_frame own h) ≡ Ok (Short 1 own (acknowledge_of h))
 unfolding short_frame
 short_reads own h o = written_read (Short 1 own (acknowledge_of h)) (short_carried 1 own (acknowledge_of h) (acknowledge_fits own h o))
 
 module _ (own : ℕ) (h : Header) (o : own ≤ most_address) (l : lowest_long ≤ h.service) (m : h.service ≤ 7) (b : h.object ≤ 31) where
-  pub error_reads : (number : ℕ) → read_of (error_frame own h number) ≡ Got (Plain (answering own h erroneous) (data_of (code_of number ∷ [])))
+  pub error_reads : (number : ℕ) → read_of (error_frame own h number) ≡ Ok (Plain (answering own h erroneous) (data_of (code_of number ∷ [])))
   unfolding error_frame
   error_reads number =
       written_read (Plain (answering own h erroneous) (data_of (code_of number ∷ [])))
       (plain_carried (answering own h erroneous) (code_of number ∷ []) (answering_fits own h erroneous o l m (omega arith) b) (omega arith))
 
-  pub success_reads : read_of (success_frame own h) ≡ Got (Plain (answering own h successful) (data_of []))
+  pub success_reads : read_of (success_frame own h) ≡ Ok (Plain (answering own h successful) (data_of []))
   unfolding success_frame
   success_reads = written_read (Plain (answering own h successful) (data_of [])) (plain_carried (answering own h successful) [] (answering_fits own h successful o l m (omega arith) b) (omega arith))
 
@@ -174,7 +174,7 @@ module _ (own : ℕ) (h : Header) (o : own ≤ most_address) (l : lowest_long �
     fits = answering_fits own h successful o l m (omega arith) b
 
     pub fragment_reads : (n : ℕ) → read_of (fragment_frame (answering own h successful) bs n)
-        ≡ Got (Fragment (answering own h successful) n (length bs) (data_of (fragment_part bs n)))
+        ≡ Ok (Fragment (answering own h successful) n (length bs) (data_of (fragment_part bs n)))
     unfolding fragment_frame
     fragment_reads n =
         written_read (Fragment (answering own h successful) n (length bs) (data_of (fragment_part bs n)))
@@ -217,7 +217,7 @@ module _ (own : ℕ) (h : Header) (o : own ≤ most_address) (l : lowest_long �
         get_or_at front (fragment_frame u bs m) [] [] n e ∙ ap (fragment_frame u bs) (omega arith))
 
     -- each frame of a Read, read back: one with all of the bytes, or fragment n of so many with its own
-    pub whole_reads : length bs ≤ 6 → (f : List ℕ) → read_frames own h bs ≡ f ∷ [] → read_of f ≡ Got (Plain (answering own h successful) (data_of bs))
+    pub whole_reads : length bs ≤ 6 → (f : List ℕ) → read_frames own h bs ≡ f ∷ [] → read_of f ≡ Ok (Plain (answering own h successful) (data_of bs))
     unfolding read_frames
     whole_reads k f e =
         let t = le-leb (length bs) 6 k in
@@ -225,6 +225,6 @@ module _ (own : ℕ) (h : Header) (o : own ≤ most_address) (l : lowest_long �
         rw (← g) (written_read (Plain (answering own h successful) (data_of bs)) (plain_carried (answering own h successful) bs fits k))
 
     pub nth_reads : 6 < length bs → (n : ℕ) → n < fragment_count (length bs)
-        → read_of (get_or (read_frames own h bs) n []) ≡ Got (Fragment (answering own h successful) n (length bs) (data_of (fragment_part bs n)))
+        → read_of (get_or (read_frames own h bs) n []) ≡ Ok (Fragment (answering own h successful) n (length bs) (data_of (fragment_part bs n)))
     unfolding read_frames
     nth_reads k n l = simp (lt-leb (length bs) 6 k) (rw (nth_fragment (fragment_count (length bs)) n l) (fragment_reads n))

@@ -1,4 +1,5 @@
 -- The number of a reply is that of the first of the thirteen checks that holds.
+use Rattle.std.proofs.Common.{Option, Some, None}
 use Prim.Native.Nat.{ℕ}
 use mathlib.Core.Path.{◌≡◌, refl, sym, ap, ◌∙◌}
 use mathlib.Core.Bool.{true, cond}
@@ -16,8 +17,6 @@ use Rattle.codec.specs.Fields.{header_of}
 use Rattle.codec.specs.Reading.{message_of}
 use Rattle.codec.proofs.Long.{message_short, message_plain, message_fragment}
 use Rattle.table.specs.declared.Attribute.{Attribute}
-use Rattle.table.specs.declared.Found.{Found}
-use Rattle.table.specs.declared.Found.TheVariants.{At, Nothing}
 use Rattle.join.specs.Work.{Piece, last, base, load, astray, joined}
 use Rattle.guest.specs.declared.Plan.TheVariants.{Join}
 use Rattle.guest.specs.Checks.{Setting, in_short, unknown, joiner, piece_of, out_of_order, sought_in, plan_checks, checks}
@@ -33,12 +32,12 @@ join_number own h a number total b l work object id e f =
     rw (← e, ← f)
     (split (astray joiner (load joiner (base a.object) work) p) (λ t. simp t) (λ t. split (last joiner p) (λ q. simp (t, q)) (λ q. simp (t, q))))
 
-served_number : (s : Setting) (r : List ℕ) (x : Areas) → Unrefused s r → (f : Found) → sought_in s.table (header_of r) ≡ f
+served_number : (s : Setting) (r : List ℕ) (x : Areas) → Unrefused s r → (f : Option Attribute) → sought_in s.table (header_of r) ≡ f
     → (reply_to s.own (header_of r) (plan_effect (joined_in x.work) (served (header_of r) (message_of r) f)) x.store).number
     ≡ cond (out_of_order (message_of r) x.work) 14 0
 unfolding reply_to
-served_number s r x u Nothing e = clash (ap unknown e) u.known
-served_number s r x u (At a) e =
+served_number s r x u None e = clash (ap unknown e) u.known
+served_number s r x u (Some a) e =
     let h = header_of r in
     let z : h.dlc ≡ 0 → ⊥ = λ q. omega (arith, u.frame.long) in
     split (eqb h.service read_service)
@@ -52,14 +51,14 @@ served_number s r x u (At a) e =
 
 -- a short Write that passes checks 1 to 5 is served
 switched_number : (s : Setting) (r : List ℕ) (x : Areas) → in_short (header_of r) ≡ true → first_of (plan_checks s r) ≡ 0
-    → (f : Found) → sought_in s.table (header_of r) ≡ f
+    → (f : Option Attribute) → sought_in s.table (header_of r) ≡ f
     → (reply_to s.own (header_of r) (effect_of (joined_in x.work) (switched (header_of r) f)) x.store).number
     ≡ cond (out_of_order (message_of r) x.work) 14 0
 unfolding reply_to
-switched_number s r x l e Nothing q = absurd (short_found s r l e q)
-switched_number s r x l e (At a) q = rw (message_short r (eqb-true (header_of r).dlc 0 l))
+switched_number s r x l e None q = absurd (short_found s r l e q)
+switched_number s r x l e (Some a) q = rw (message_short r (eqb-true (header_of r).dlc 0 l))
 
-passing_number : (s : Setting) (r : List ℕ) (x : Areas) → first_of (plan_checks s r) ≡ 0 → (f : Found) → sought_in s.table (header_of r) ≡ f
+passing_number : (s : Setting) (r : List ℕ) (x : Areas) → first_of (plan_checks s r) ≡ 0 → (f : Option Attribute) → sought_in s.table (header_of r) ≡ f
     → (reply_to s.own (header_of r) (effect_of (joined_in x.work) (passing (header_of r) (message_of r) f)) x.store).number
     ≡ cond (out_of_order (message_of r) x.work) 14 0
 passing_number s r x e f q =

@@ -1,4 +1,5 @@
 -- What a plan promises: the facts that checks 1 to 12 leave.
+use Rattle.std.proofs.Common.{Option, Some, None}
 use Prim.Native.Nat.{ℕ, ◌≤◌}
 use mathlib.Core.Path.{◌≡◌, refl, sym, ap, subst, ◌∙◌}
 use mathlib.Core.Bool.{Bool, true, false, not, ◌&&◌, ◌||◌, and-eq-true_iff}
@@ -15,8 +16,7 @@ use Rattle.octets.specs.declared.Data.{Data}
 use Rattle.octets.specs.Data.{bytes_of, tidy}
 use Rattle.octets.proofs.Datas.{bytes_length, tidy_more}
 use Rattle.codec.specs.declared.Header.{Header}
-use Rattle.codec.specs.declared.Answer.{Answer}
-use Rattle.codec.specs.declared.Answer.TheVariants.{Got}
+use Rattle.std.specs.Prelude.{Result, Ok}
 use Rattle.codec.specs.declared.Subject.{Subject}
 use Rattle.codec.specs.declared.Message.{Message}
 use Rattle.codec.specs.declared.Message.TheVariants.{Short, Plain, Fragment}
@@ -28,8 +28,6 @@ use Rattle.codec.proofs.Headers.{long_served, long_passes, short_passes, ranged}
 use Rattle.codec.proofs.Long.{got, message_short, message_plain, message_fragment}
 use Rattle.codec.proofs.Trips.{read_is_carried}
 use Rattle.table.specs.declared.Attribute.{Attribute}
-use Rattle.table.specs.declared.Found.{Found}
-use Rattle.table.specs.declared.Found.TheVariants.{At, Nothing}
 use Rattle.table.specs.Table.{lengths_fit, LengthsFit, attributes, writable, well_formed, find, first_network, single_boolean}
 use Rattle.table.proofs.Tables.{lengths_fit_in_words, Placed, found_placed, found_named, network_placed, network_its, single_byte}
 use Rattle.join.specs.Work.{area_size}
@@ -110,7 +108,7 @@ pub record Unrefused (s : Setting) (r : List ℕ) : Type 0 where
   pub long : in_short (header_of r) ≡ false
   pub sizes : Accepted s r
   pub well : well_formed s.table s.store_len ≡ true
-  pub read : read_of r ≡ Got (message_of r)
+  pub read : read_of r ≡ Ok (message_of r)
   pub frame : Passed (header_of r)
   pub known : unknown (sought_in s.table (header_of r)) ≡ false
   pub length_fits : wrong_length (header_of r) (message_of r) (sought_in s.table (header_of r)) ≡ false
@@ -144,7 +142,7 @@ unrefused s r long e =
 
 -- what is known of the attribute that a frame in long form is served with
 pub record Its (s : Setting) (h : Header) (a : Attribute) : Type 0 where
-  pub found : find s.table h.object h.id ≡ At a
+  pub found : find s.table h.object h.id ≡ Some a
   pub place : Placed (attributes s.table) s.store_len a
   pub object : a.object ≡ h.object
   pub id : a.id ≡ h.id
@@ -169,7 +167,7 @@ Sound s h (Write a b) = ForWrite s h a b
 Sound s h (Join a number total b) = ForJoin s h a number total b
 
 sound_write : (s : Setting) (r : List ℕ) (a : Attribute) → Its s (header_of r) a → (header_of r).service ≡ write_service
-    → (m : Message) → carried m ≡ true → wrong_length (header_of r) m (At a) ≡ false → wrong_piece m ≡ false
+    → (m : Message) → carried m ≡ true → wrong_length (header_of r) m (Some a) ≡ false → wrong_piece m ≡ false
     → Sound s (header_of r) (served_write a m)
 unfolding carried
 sound_write s r a its w (Short d q v) c l p = its.place.fits.object
@@ -198,7 +196,7 @@ pub sought_short : (t : List ℕ) (h : Header) → in_short h ≡ true → sough
 unfolding sought_in
 sought_short t h l = simp l
 
-pub its_of : (s : Setting) (r : List ℕ) → Unrefused s r → (a : Attribute) → sought_in s.table (header_of r) ≡ At a → Its s (header_of r) a
+pub its_of : (s : Setting) (r : List ℕ) → Unrefused s r → (a : Attribute) → sought_in s.table (header_of r) ≡ Some a → Its s (header_of r) a
 its_of s r u a e =
     let found = sym (sought_long s.table (header_of r) u.long) ∙ e in
     let name = found_named s.table (header_of r).object (header_of r).id a found in
@@ -210,22 +208,22 @@ its_of s r u a e =
       area = u.sizes.work;
     }
 
-pub sound_served : (s : Setting) (r : List ℕ) → Unrefused s r → (f : Found) → sought_in s.table (header_of r) ≡ f
+pub sound_served : (s : Setting) (r : List ℕ) → Unrefused s r → (f : Option Attribute) → sought_in s.table (header_of r) ≡ f
     → Sound s (header_of r) (served (header_of r) (message_of r) f)
-sound_served s r u Nothing e = (ranged r).object
-sound_served s r u (At a) e =
+sound_served s r u None e = (ranged r).object
+sound_served s r u (Some a) e =
     let its = its_of s r u a e in
     split (eqb (header_of r).service read_service)
     (λ t. simp t its)
     (λ t. simp t (sound_write s r a its (u.frame.services (eqb-false (header_of r).service read_service t)) (message_of r)
     (read_is_carried r (message_of r) u.read)
-    (subst (λ (f : Found). wrong_length (header_of r) (message_of r) f ≡ false) e u.length_fits) u.piece_fits))
+    (subst (λ (f : Option Attribute). wrong_length (header_of r) (message_of r) f ≡ false) e u.length_fits) u.piece_fits))
 
 -- ---- a record in short form
 
 -- what is known of the attribute that a short Write gives its state to
 pub record ForSwitch (s : Setting) (h : Header) (a : Attribute) : Type 0 where
-  pub found : first_network s.table 0 ≡ At a
+  pub found : first_network s.table 0 ≡ Some a
   pub asked : short_write h ≡ true
   pub single : single_boolean a ≡ true
   pub may : writable a ≡ true
@@ -235,19 +233,19 @@ pub record ForSwitch (s : Setting) (h : Header) (a : Attribute) : Type 0 where
   pub area : s.work_len ≡ area_size
 
 -- what check 5 leaves of a short form
-pub taken_by : (h : Header) (f : Found) → in_short h ≡ true → no_service h f ≡ false → short_write h && takes_state f ≡ true
+pub taken_by : (h : Header) (f : Option Attribute) → in_short h ≡ true → no_service h f ≡ false → short_write h && takes_state f ≡ true
 taken_by h f q e =
     let refused = ((neither (unserved h) _).0 e).1 in
     not-false _ (not_both (in_short h) (not (short_write h && takes_state f)) refused q)
 
 for_switch : (s : Setting) (r : List ℕ) → in_short (header_of r) ≡ true → first_of (plan_checks s r) ≡ 0
-    → (a : Attribute) → sought_in s.table (header_of r) ≡ At a → ForSwitch s (header_of r) a
+    → (a : Attribute) → sought_in s.table (header_of r) ≡ Some a → ForSwitch s (header_of r) a
 unfolding holds_at
 for_switch s r q e a f =
     let none = (none_holds (plan_checks s r) refl).0 e in
     let well = not-false _ (none 2) in
     let found = sym (sought_short s.table (header_of r) q) ∙ f in
-    let taken = halves (short_write (header_of r)) (taken_by (header_of r) (At a) q (subst (λ (g : Found). no_service (header_of r) g ≡ false) f (none 5))) in
+    let taken = halves (short_write (header_of r)) (taken_by (header_of r) (Some a) q (subst (λ (g : Option Attribute). no_service (header_of r) g ≡ false) f (none 5))) in
     let takes = halves (single_boolean a) taken.1 in
     record {
       found = found;
@@ -269,11 +267,11 @@ SoundJudged s h (switches a state) = ForSwitch s h a
 SoundJudged s h (asks p) = Sound s h p
 
 sound_switched : (s : Setting) (r : List ℕ) → in_short (header_of r) ≡ true → first_of (plan_checks s r) ≡ 0
-    → (f : Found) → sought_in s.table (header_of r) ≡ f → SoundJudged s (header_of r) (switched (header_of r) f)
-sound_switched s r q e Nothing g = tt
-sound_switched s r q e (At a) g = for_switch s r q e a g
+    → (f : Option Attribute) → sought_in s.table (header_of r) ≡ f → SoundJudged s (header_of r) (switched (header_of r) f)
+sound_switched s r q e None g = tt
+sound_switched s r q e (Some a) g = for_switch s r q e a g
 
-sound_passing : (s : Setting) (r : List ℕ) → first_of (plan_checks s r) ≡ 0 → (f : Found) → sought_in s.table (header_of r) ≡ f
+sound_passing : (s : Setting) (r : List ℕ) → first_of (plan_checks s r) ≡ 0 → (f : Option Attribute) → sought_in s.table (header_of r) ≡ f
     → SoundJudged s (header_of r) (passing (header_of r) (message_of r) f)
 sound_passing s r e f g =
     split (in_short (header_of r))
@@ -290,25 +288,25 @@ sound s r =
 -- ---- what a frame that passes checks 1 to 12 is served as
 
 pub data ServedBy (s : Setting) (r : List ℕ) : Type 0 where
-  by_switch : (a : Attribute) → read_of r ≡ Got (short_of (header_of r)) → ForSwitch s (header_of r) a
+  by_switch : (a : Attribute) → read_of r ≡ Ok (short_of (header_of r)) → ForSwitch s (header_of r) a
       → judged_of s r ≡ switches a (state_of (header_of r)) → ServedBy s r
   by_read : (a : Attribute) → (header_of r).service ≡ read_service → Its s (header_of r) a → judged_of s r ≡ asks (Read a) → ServedBy s r
-  by_write : (a : Attribute) (u : Subject) (b : Data) → (header_of r).service ≡ write_service → read_of r ≡ Got (Plain u b)
+  by_write : (a : Attribute) (u : Subject) (b : Data) → (header_of r).service ≡ write_service → read_of r ≡ Ok (Plain u b)
       → ForWrite s (header_of r) a b → judged_of s r ≡ asks (Write a b) → ServedBy s r
-  by_join : (a : Attribute) (u : Subject) (number total : ℕ) (b : Data) → (header_of r).service ≡ write_service → read_of r ≡ Got (Fragment u number total b)
+  by_join : (a : Attribute) (u : Subject) (number total : ℕ) (b : Data) → (header_of r).service ≡ write_service → read_of r ≡ Ok (Fragment u number total b)
       → ForJoin s (header_of r) a number total b → judged_of s r ≡ asks (Join a number total b) → ServedBy s r
 
-judged_passing : (s : Setting) (r : List ℕ) → first_of (plan_checks s r) ≡ 0 → (f : Found) → sought_in s.table (header_of r) ≡ f
+judged_passing : (s : Setting) (r : List ℕ) → first_of (plan_checks s r) ≡ 0 → (f : Option Attribute) → sought_in s.table (header_of r) ≡ f
     → judged_of s r ≡ passing (header_of r) (message_of r) f
 unfolding judged_of
-judged_passing s r e f q = simp (eq-eqb (first_of (plan_checks s r)) 0 e) (ap (λ (f : Found). passing (header_of r) (message_of r) f) q)
+judged_passing s r e f q = simp (eq-eqb (first_of (plan_checks s r)) 0 e) (ap (λ (f : Option Attribute). passing (header_of r) (message_of r) f) q)
 
 -- in short form it finds a record that takes its state
-pub short_found : (s : Setting) (r : List ℕ) → in_short (header_of r) ≡ true → first_of (plan_checks s r) ≡ 0 → sought_in s.table (header_of r) ≡ Nothing → ⊥
+pub short_found : (s : Setting) (r : List ℕ) → in_short (header_of r) ≡ true → first_of (plan_checks s r) ≡ 0 → sought_in s.table (header_of r) ≡ None → ⊥
 unfolding holds_at
 short_found s r l e q =
     let five = (none_holds (plan_checks s r) refl).0 e 5 in
-    let taken = halves (short_write (header_of r)) (taken_by (header_of r) Nothing l (subst (λ (f : Found). no_service (header_of r) f ≡ false) q five)) in
+    let taken = halves (short_write (header_of r)) (taken_by (header_of r) None l (subst (λ (f : Option Attribute). no_service (header_of r) f ≡ false) q five)) in
     clash {P = ⊥} taken.1 refl
 
 served_short : (s : Setting) (r : List ℕ) → in_short (header_of r) ≡ true → first_of (plan_checks s r) ≡ 0 → ServedBy s r
@@ -321,12 +319,12 @@ served_short s r l e = found (sought_in s.table (header_of r)) refl
     zero : (header_of r).dlc ≡ 0
     zero = eqb-true (header_of r).dlc 0 l
 
-    says : read_of r ≡ Got (short_of (header_of r))
-    says = got r (accepted s r (none 1)).ten (short_passes (header_of r) (none 3) zero) ∙ ap {B = Answer} Got (message_short r zero)
+    says : read_of r ≡ Ok (short_of (header_of r))
+    says = got r (accepted s r (none 1)).ten (short_passes (header_of r) (none 3) zero) ∙ ap {B = Result Message ℕ} Ok (message_short r zero)
 
-    found : (f : Found) → sought_in s.table (header_of r) ≡ f → ServedBy s r
-    found Nothing q = absurd (short_found s r l e q)
-    found (At a) q = by_switch a says (for_switch s r l e a q) (judged_passing s r e (At a) q ∙ simp l)
+    found : (f : Option Attribute) → sought_in s.table (header_of r) ≡ f → ServedBy s r
+    found None q = absurd (short_found s r l e q)
+    found (Some a) q = by_switch a says (for_switch s r l e a q) (judged_passing s r e (Some a) q ∙ simp l)
 
 served_long : (s : Setting) (r : List ℕ) → in_short (header_of r) ≡ false → first_of (plan_checks s r) ≡ 0 → ServedBy s r
 served_long s r l e = found (sought_in s.table (header_of r)) refl
@@ -340,28 +338,28 @@ served_long s r l e = found (sought_in s.table (header_of r)) refl
     long : h.dlc ≡ 0 → ⊥
     long q = omega (arith, u.frame.long)
 
-    plan : (f : Found) → sought_in s.table h ≡ f → judged_of s r ≡ asks (served h (message_of r) f)
+    plan : (f : Option Attribute) → sought_in s.table h ≡ f → judged_of s r ≡ asks (served h (message_of r) f)
     plan f q = judged_passing s r e f q ∙ simp l
 
     is_sound : (p : Plan) → judged_of s r ≡ asks p → Sound s h p
     is_sound p q = subst (SoundJudged s h) q (sound s r)
 
-    found : (f : Found) → sought_in s.table h ≡ f → ServedBy s r
-    found Nothing q = clash (ap unknown q) u.known
-    found (At a) q =
+    found : (f : Option Attribute) → sought_in s.table h ≡ f → ServedBy s r
+    found None q = clash (ap unknown q) u.known
+    found (Some a) q =
         split (eqb h.service read_service)
-        (λ t. let p : judged_of s r ≡ asks (Read a) = plan (At a) q ∙ simp t in by_read a (eqb-true h.service read_service t) (is_sound (Read a) p) p)
+        (λ t. let p : judged_of s r ≡ asks (Read a) = plan (Some a) q ∙ simp t in by_read a (eqb-true h.service read_service t) (is_sound (Read a) p) p)
         (λ t.
         let w = u.frame.services (eqb-false h.service read_service t) in
         split (eqb h.flag 1)
         (λ f.
         let m = message_fragment r long (eqb-true h.flag 1 f) in
-        let p = plan (At a) q ∙ simp (t, m) in
-        by_join a _ _ _ _ w (u.read ∙ ap {B = Answer} Got m) (is_sound _ p) p)
+        let p = plan (Some a) q ∙ simp (t, m) in
+        by_join a _ _ _ _ w (u.read ∙ ap {B = Result Message ℕ} Ok m) (is_sound _ p) p)
         (λ f.
         let m = message_plain r long (eqb-false h.flag 1 f) in
-        let p = plan (At a) q ∙ simp (t, m) in
-        by_write a _ _ w (u.read ∙ ap {B = Answer} Got m) (is_sound _ p) p))
+        let p = plan (Some a) q ∙ simp (t, m) in
+        by_write a _ _ w (u.read ∙ ap {B = Result Message ℕ} Ok m) (is_sound _ p) p))
 
 pub served_by : (s : Setting) (r : List ℕ) → first_of (plan_checks s r) ≡ 0 → ServedBy s r
 served_by s r e = split (in_short (header_of r)) (λ l. served_short s r l e) (λ l. served_long s r l e)

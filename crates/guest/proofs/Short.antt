@@ -1,4 +1,5 @@
 -- A frame in short form: what is judged of it, whose it is, and that nothing behind its first two bytes is looked at (02, 2026-01).
+use Rattle.std.proofs.Common.{Option as Found, Some, None}
 use Prim.Native.Nat.{ℕ, ◌≤◌}
 use mathlib.Core.Path.{◌≡◌, refl, sym, ap, ◌∙◌}
 use mathlib.Core.Bool.{true, cond, not}
@@ -15,8 +16,7 @@ use Rattle.laws.proofs.Tests.{split}
 use Rattle.codec.specs.declared.Header.{Header}
 use Rattle.codec.specs.Fields.{header_of}
 use Rattle.codec.specs.Reading.{message_of}
-use Rattle.table.specs.declared.Found.{Found}
-use Rattle.table.specs.declared.Found.TheVariants.{At, Nothing}
+use Rattle.table.specs.declared.Attribute.{Attribute}
 use Rattle.table.specs.Table.{first_network}
 use Rattle.table.proofs.Tables.{network_its}
 use Rattle.guest.specs.Checks.{Setting, in_short, front_checks, long_checks, sought_in, plan_checks}
@@ -41,7 +41,7 @@ module _ (s : Setting) (r : List ℕ) (l : in_short (header_of r) ≡ true) wher
   by_number : (n object : ℕ) → n ≤ 6 → (p q : Judged) → p ≡ q → cond (eqb n 0) p (refused n object) ≡ cond (eqb n 0) q (quiet n)
   by_number n object h p q e = split (eqb n 0) (λ t. simp t e) (λ t. simp (t, le-leb n 6 h))
 
-  passes_as : (f : Found) → passing (header_of r) (message_of r) f ≡ switched (header_of r) f
+  passes_as : (f : Found Attribute) → passing (header_of r) (message_of r) f ≡ switched (header_of r) f
   passes_as f = simp l
 
   -- so it is refused without a frame, or gives a state
@@ -57,10 +57,10 @@ module _ (s : Setting) (r : List ℕ) (l : in_short (header_of r) ≡ true) wher
   unfolding reply_to
   short_most x = rw short_judged (go (first_of (plan_checks s r)) first_most_five (first_network s.table 0))
     where
-      go : (n : ℕ) → n ≤ 5 → (f : Found)
+      go : (n : ℕ) → n ≤ 5 → (f : Found Attribute)
           → (reply_to s.own (header_of r) (effect_of (joined_in x.work) (cond (eqb n 0) (switched (header_of r) f) (quiet n))) x.store).number ≤ 5
-      go n h Nothing = split (eqb n 0) (λ t. simp t (omega arith)) (λ t. simp t h)
-      go n h (At a) = split (eqb n 0) (λ t. simp t (omega arith)) (λ t. simp t h)
+      go n h None = split (eqb n 0) (λ t. simp t (omega arith)) (λ t. simp t h)
+      go n h (Some a) = split (eqb n 0) (λ t. simp t (omega arith)) (λ t. simp t h)
 
   -- "In demand 3 such a frame is one of object 0's": where it is served, whatever object its third byte would name; else it is nobody's
   pub served_owner : first_of (plan_checks s r) ≡ 0 → owner_of s r ≡ some 0
@@ -68,9 +68,9 @@ module _ (s : Setting) (r : List ℕ) (l : in_short (header_of r) ≡ true) wher
       let judged : judged_of s r ≡ switched (header_of r) (first_network s.table 0) = short_judged ∙ simp (eq-eqb (first_of (plan_checks s r)) 0 e) in
       ap owner judged ∙ go (first_network s.table 0) refl
     where
-      go : (f : Found) → first_network s.table 0 ≡ f → owner (switched (header_of r) f) ≡ some 0
-      go Nothing q = absurd (short_found s r l e (sought_short s.table (header_of r) l ∙ q))
-      go (At a) q = ap {B = Option ℕ} some (network_its s.table 0 a q).0
+      go : (f : Found Attribute) → first_network s.table 0 ≡ f → owner (switched (header_of r) f) ≡ some 0
+      go None q = absurd (short_found s r l e (sought_short s.table (header_of r) l ∙ q))
+      go (Some a) q = ap {B = Option ℕ} some (network_its s.table 0 a q).0
 
   pub refused_owner : (first_of (plan_checks s r) ≡ 0 → ⊥) → owner_of s r ≡ none
   refused_owner e =
@@ -92,20 +92,20 @@ module _ (s : Setting) (r t : List ℕ) (n : length t ≡ length r) (e0 : byte_a
   unfolding header_of
   same_service = rw e1
 
-  same_switched : (f : Found) → switched (header_of t) f ≡ switched (header_of r) f
-  same_switched Nothing = refl
-  same_switched (At a) = rw same_service
+  same_switched : (f : Found Attribute) → switched (header_of t) f ≡ switched (header_of r) f
+  same_switched None = refl
+  same_switched (Some a) = rw same_service
 
   -- "Bytes 2 to 9 of it are not looked at": they are judged the same, and answered the same
   pub same_judged : judged_of s t ≡ judged_of s r
   same_judged = short_judged s t also_short ∙ rw (same_first, same_switched (first_network s.table 0)) (sym (short_judged s r l))
 
-  said_alike : (x : Areas) (n : ℕ) (f : Found)
+  said_alike : (x : Areas) (n : ℕ) (f : Found Attribute)
       → reply_to s.own (header_of t) (effect_of (joined_in x.work) (cond (eqb n 0) (switched (header_of r) f) (quiet n))) x.store
       ≡ reply_to s.own (header_of r) (effect_of (joined_in x.work) (cond (eqb n 0) (switched (header_of r) f) (quiet n))) x.store
   unfolding reply_to short_frame
-  said_alike x n Nothing = split (eqb n 0) (λ t. simp t) (λ t. simp t)
-  said_alike x n (At a) = split (eqb n 0) (λ t. simp t (rw same_service)) (λ t. simp t)
+  said_alike x n None = split (eqb n 0) (λ t. simp t) (λ t. simp t)
+  said_alike x n (Some a) = split (eqb n 0) (λ t. simp t (rw same_service)) (λ t. simp t)
 
   pub same_answer : (x : Areas) → answer s t x ≡ answer s r x
   same_answer x =

@@ -1,5 +1,5 @@
 -- The checks of a frame (01, "One frame, one reply"; 02, 2026-01, for the short form), each beside its row, in one ordered list.
-use Rattle.std.specs.Prelude.{ℕ, ◌*◌, Bool, true, false, cond, not, ◌&&◌, ◌||◌, List, [], ◌∷◌, ◌++◌, length, eqb, ltb}
+use Rattle.std.specs.Prelude.{ℕ, ◌*◌, Bool, true, false, cond, not, ◌&&◌, ◌||◌, List, [], ◌∷◌, ◌++◌, length, eqb, ltb, Option, Some, None}
 use Rattle.laws.specs.Checks.{Check, only_where}
 use Rattle.octets.specs.declared.Data.{Data}
 use Rattle.octets.specs.Data.{bytes_of}
@@ -9,8 +9,7 @@ use Rattle.codec.specs.declared.Message.TheVariants.{Short, Plain, Fragment}
 use Rattle.codec.specs.Names.{frame_size, most_address, write_off, write_on, write_service, read_service, request}
 use Rattle.codec.specs.Fields.{header_of}
 use Rattle.codec.specs.Reading.{barred, unserved, message_of}
-use Rattle.table.specs.declared.Found.{Found}
-use Rattle.table.specs.declared.Found.TheVariants.{At, Nothing}
+use Rattle.table.specs.declared.Attribute.{Attribute}
 use Rattle.table.specs.Table.{lengths_fit, readable, writable, well_formed, find, first_network, single_boolean}
 use Rattle.join.specs.Work.{area_size, base, Joiner, simple, Piece, load, shaped_by, astray}
 
@@ -57,13 +56,13 @@ abbrev pub short_write : Header → Bool
 short_write h = eqb h.service write_off || eqb h.service write_on
 
 -- whether the record that it is about takes it: "if that record is a single Boolean (N = 1, one byte) and may be written"
-abbrev pub takes_state : Found → Bool
-takes_state Nothing = false
-takes_state (At a) = single_boolean a && writable a
+abbrev pub takes_state : Option Attribute → Bool
+takes_state None = false
+takes_state (Some a) = single_boolean a && writable a
 
 -- 5  "DLC 0 or 1, or service 0 to 3", of which 02, 2026-01, leaves: DLC 1, or DLC 2 up with service 0 to 3 (the codec's `unserved`); of DLC 0 "the other
 -- six codes and where object 0 has no such record"
-abbrev pub no_service : Header → Found → Bool
+abbrev pub no_service : Header → Option Attribute → Bool
 no_service h found = unserved h || (in_short h && not (short_write h && takes_state found))
 
 -- 6  "not a Request"
@@ -81,14 +80,14 @@ bad_shape h =
     || (eqb h.service write_service && eqb h.flag 1 && ltb h.dlc 4)
 
 -- 9  "no such (object, attribute)"
-abbrev pub unknown : Found → Bool
-unknown Nothing = true
-unknown (At a) = false
+abbrev pub unknown : Option Attribute → Bool
+unknown None = true
+unknown (Some a) = false
 
 -- 10  "its access bit is not set": read's for a Read, write's for a Write
-abbrev pub no_access : Header → Found → Bool
-no_access h Nothing = false
-no_access h (At a) = not (cond (eqb h.service read_service) (readable a) (writable a))
+abbrev pub no_access : Header → Option Attribute → Bool
+no_access h None = false
+no_access h (Some a) = not (cond (eqb h.service read_service) (readable a) (writable a))
 
 -- the length that a Write asks for: "data length (unfragmented) or total (fragmented)"
 abbrev pub length_asked : Message → ℕ
@@ -97,9 +96,9 @@ length_asked (Plain u b) = b.len
 length_asked (Fragment u number total b) = total
 
 -- 11  "Write: .. differs from the attribute's length"
-abbrev pub wrong_length : Header → Message → Found → Bool
-wrong_length h m Nothing = false
-wrong_length h m (At a) = eqb h.service write_service && not (eqb (length_asked m) a.len)
+abbrev pub wrong_length : Header → Message → Option Attribute → Bool
+wrong_length h m None = false
+wrong_length h m (Some a) = eqb h.service write_service && not (eqb (length_asked m) a.len)
 
 -- the data bytes of every fragment but the last
 abbrev pub fragment_bytes : ℕ
@@ -127,7 +126,7 @@ out_of_order (Plain u b) work = false
 out_of_order (Fragment u number total b) work = astray joiner (load joiner (base u.object) work) (piece_of u.id number total b)
 
 -- checks 1 to 5, of every frame
-abbrev pub front_checks : Setting → List ℕ → Header → Found → List Check
+abbrev pub front_checks : Setting → List ℕ → Header → Option Attribute → List Check
 front_checks s r h found =
     (misfit s r, 1)
     ∷ (ill_formed s, 2)
@@ -137,7 +136,7 @@ front_checks s r h found =
     ∷ []
 
 -- checks 6 to 12, of a long form
-abbrev pub long_checks : Header → Message → Found → List Check
+abbrev pub long_checks : Header → Message → Option Attribute → List Check
 long_checks h m found =
     (not_request h, 6)
     ∷ (action_or_event h, 7)
@@ -149,11 +148,11 @@ long_checks h m found =
     ∷ []
 
 -- checks 1 to 12: no state decides them. "Checks 6 to 14 don't apply to" a short Write (02, 2026-01)
-abbrev pub stateless : Setting → List ℕ → Header → Message → Found → List Check
+abbrev pub stateless : Setting → List ℕ → Header → Message → Option Attribute → List Check
 stateless s r h m found = front_checks s r h found ++ only_where (not (in_short h)) (long_checks h m found)
 
 -- the record that a frame is about: in short form "the first network record of object 0" (02, 2026-01), else that of its object and ID
-unfoldable pub sought_in : List ℕ → Header → Found
+unfoldable pub sought_in : List ℕ → Header → Option Attribute
 sought_in t h = cond (in_short h) (first_network t 0) (find t h.object h.id)
 
 abbrev pub plan_checks : Setting → List ℕ → List Check

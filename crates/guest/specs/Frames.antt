@@ -1,8 +1,6 @@
 -- The frames of a reply, as a host reads them.
-use Rattle.std.specs.Prelude.{ℕ, ◌≡◌, List, [], ◌∷◌, ◌++◌, length}
+use Rattle.std.specs.Prelude.{ℕ, ◌≡◌, List, [], ◌∷◌, ◌++◌, length, Result, Ok, Err}
 use Rattle.octets.specs.Data.{bytes_of}
-use Rattle.codec.specs.declared.Answer.{Answer}
-use Rattle.codec.specs.declared.Answer.TheVariants.{Got, Refused}
 use Rattle.codec.specs.declared.Message.{Message}
 use Rattle.codec.specs.declared.Message.TheVariants.{Short, Plain, Fragment}
 use Rattle.codec.specs.Reading.{read_of}
@@ -18,9 +16,9 @@ data_of_message (Short dir address service) = []
 data_of_message (Plain u b) = bytes_of b
 data_of_message (Fragment u number total b) = bytes_of b
 
-abbrev pub data_of_answer : Answer → List ℕ
-data_of_answer (Got m) = data_of_message m
-data_of_answer (Refused n) = []
+abbrev pub data_of_answer : Result Message ℕ → List ℕ
+data_of_answer (Ok m) = data_of_message m
+data_of_answer (Err n) = []
 
 -- the data of frames, one behind the other, each read by the codec
 abbrev pub data_of_frames : List (List ℕ) → List ℕ

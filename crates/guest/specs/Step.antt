@@ -1,6 +1,7 @@
 -- One frame: what it asks for, what it does, what is answered (01, from "One frame, one reply" on; 02, 2026-01, for the short form, and 2026-06, for error
 -- frames).
-use Rattle.std.specs.Prelude.{ℕ, zero, suc, ◌+◌, ◌*◌, ◌/◌, cond, List, [], ◌∷◌, ◌++◌, length, take, drop, eqb, leb}
+-- what a search finds is Rust's `Option`, here by the name `Found`, beside the one of terms, which says whose
+use Rattle.std.specs.Prelude.{ℕ, zero, suc, ◌+◌, ◌*◌, ◌/◌, cond, List, [], ◌∷◌, ◌++◌, length, take, drop, eqb, leb, Option as Found, Some, None}
 use Rattle.std.proofs.Math.Option.{Option, none, some}
 use Rattle.laws.specs.Checks.{first_of}
 use Rattle.laws.specs.Put.{put}
@@ -14,8 +15,6 @@ use Rattle.codec.specs.Fields.{header_of}
 use Rattle.codec.specs.Reading.{message_of}
 use Rattle.codec.specs.Writing.{image_of}
 use Rattle.table.specs.declared.Attribute.{Attribute}
-use Rattle.table.specs.declared.Found.{Found}
-use Rattle.table.specs.declared.Found.TheVariants.{At, Nothing}
 use Rattle.table.specs.Table.{part_of}
 use Rattle.join.specs.Work.{Piece, Joined, kept, done, lost, base, load, joined, dropped, area_after}
 use Rattle.guest.specs.declared.Plan.{Plan}
@@ -31,9 +30,9 @@ served_write a (Short dir address service) = Error 8 a.object
 served_write a (Plain u b) = Write a b
 served_write a (Fragment u number total b) = Join a number total b
 
-abbrev pub served : Header → Message → Found → Plan
-served h m Nothing = Error 9 h.object
-served h m (At a) = cond (eqb h.service read_service) (Read a) (served_write a m)
+abbrev pub served : Header → Message → Found Attribute → Plan
+served h m None = Error 9 h.object
+served h m (Some a) = cond (eqb h.service read_service) (Read a) (served_write a m)
 
 -- what is judged of a frame
 pub data Judged : Type 0 where
@@ -49,12 +48,12 @@ abbrev pub state_of : Header → ℕ
 state_of h = cond (eqb h.service write_on) 1 0
 
 -- a short Write that passes checks 1 to 5 (no record found cannot be: check 5)
-abbrev pub switched : Header → Found → Judged
-switched h Nothing = quiet 5
-switched h (At a) = switches a (state_of h)
+abbrev pub switched : Header → Found Attribute → Judged
+switched h None = quiet 5
+switched h (Some a) = switches a (state_of h)
 
 -- a frame that passes checks 1 to 12
-abbrev pub passing : Header → Message → Found → Judged
+abbrev pub passing : Header → Message → Found Attribute → Judged
 passing h m found = cond (in_short h) (switched h found) (asks (served h m found))
 
 -- refusals 1 to 6 put no frame, 7 to 12 one

@@ -1,4 +1,5 @@
 -- Checks in groups are 01's list: what is judged of a frame group by group, and what the code makes of a Request.
+use Rattle.std.proofs.Common.{Option, Some, None}
 use Prim.Native.Nat.{ℕ, ◌≤◌, ◌<◌}
 use mathlib.Core.Path.{◌≡◌, refl, sym, ap, subst, ◌∙◌}
 use mathlib.Core.Bool.{Bool, true, false, cond, not, ◌&&◌, ◌||◌}
@@ -15,8 +16,7 @@ use Rattle.octets.specs.Data.{data_of}
 use Rattle.codec.specs.declared.Header.{Header}
 use Rattle.codec.specs.declared.Message.{Message}
 use Rattle.codec.specs.declared.Message.TheVariants.{Short, Plain, Fragment}
-use Rattle.codec.specs.declared.Answer.{Answer}
-use Rattle.codec.specs.declared.Answer.TheVariants.{Got, Refused}
+use Rattle.std.specs.Prelude.{Result, Ok, Err}
 use Rattle.codec.specs.Names.{write_service, read_service}
 use Rattle.codec.specs.Fields.{header_of}
 use Rattle.codec.specs.Reading.{barred, unserved, subject_of, payload_of, message_of, read_of, number_of}
@@ -25,8 +25,6 @@ use Rattle.codec.proofs.Long.{got, message_plain, message_fragment}
 use Rattle.codec.proofs.Trips.{read_message}
 use Rattle.codec.proofs.Promises.{reads_exactly}
 use Rattle.table.specs.declared.Attribute.{Attribute}
-use Rattle.table.specs.declared.Found.{Found}
-use Rattle.table.specs.declared.Found.TheVariants.{At, Nothing}
 use Rattle.table.specs.Table.{readable, writable, Ordered, first_network, single_boolean}
 use Rattle.join.specs.Work.{shaped_by}
 use Rattle.table.proofs.Tables.{search_finds}
@@ -96,8 +94,8 @@ module _ (s : Setting) (r : List ℕ) where
 
 -- ---- what the code finds for a short form
 
-pub point_by : (t : List ℕ) (h : Header) (a : Attribute) → short_write h ≡ true → first_network t 0 ≡ At a
-    → point_for t h ≡ cond (single_boolean a && writable a) (At a) Nothing
+pub point_by : (t : List ℕ) (h : Header) (a : Attribute) → short_write h ≡ true → first_network t 0 ≡ Some a
+    → point_for t h ≡ cond (single_boolean a && writable a) (Some a) None
 unfolding point_for
 point_by t h a w f = rw (w, f)
 
@@ -105,30 +103,30 @@ point_taken : (t : List ℕ) (h : Header) → short_write h && takes_state (firs
 unfolding point_for
 point_taken t h e = let p = halves (short_write h) e in simp p.0 (go (first_network t 0) p.1)
   where
-    go : (f : Found) → takes_state f ≡ true → taking f ≡ f
-    go Nothing q = refl
-    go (At a) q = simp q
+    go : (f : Option Attribute) → takes_state f ≡ true → taking f ≡ f
+    go None q = refl
+    go (Some a) q = simp q
 
-point_refused : (t : List ℕ) (h : Header) → short_write h && takes_state (first_network t 0) ≡ false → point_for t h ≡ Nothing
+point_refused : (t : List ℕ) (h : Header) → short_write h && takes_state (first_network t 0) ≡ false → point_for t h ≡ None
 unfolding point_for
 point_refused t h e =
     split (short_write h)
     (λ w. simp w (go (first_network t 0) (not_both (short_write h) (takes_state (first_network t 0)) e w)))
     (λ w. simp w)
   where
-    go : (f : Found) → takes_state f ≡ false → taking f ≡ Nothing
-    go Nothing q = refl
-    go (At a) q = simp q
+    go : (f : Option Attribute) → takes_state f ≡ false → taking f ≡ None
+    go None q = refl
+    go (Some a) q = simp q
 
 -- a record that it finds is the one that check 5 asks for
-pub point_found : (t : List ℕ) (h : Header) (a : Attribute) → point_for t h ≡ At a → (first_network t 0 ≡ At a) × (single_boolean a ≡ true)
+pub point_found : (t : List ℕ) (h : Header) (a : Attribute) → point_for t h ≡ Some a → (first_network t 0 ≡ Some a) × (single_boolean a ≡ true)
 point_found t h a e =
     split (short_write h && takes_state (first_network t 0))
     (λ w.
     let found = sym (point_taken t h w) ∙ e in
-    let takes = subst (λ (f : Found). takes_state f ≡ true) found (halves (short_write h) w).1 in
+    let takes = subst (λ (f : Option Attribute). takes_state f ≡ true) found (halves (short_write h) w).1 in
     (found, (halves (single_boolean a) takes).0))
-    (λ w. let z : At a ≡ Nothing = sym e ∙ point_refused t h w in let q : ◌≡◌ {A = ℕ} 0 1 = cc in absurd (omega arith))
+    (λ w. let z : Some a ≡ None = sym e ∙ point_refused t h w in let q : ◌≡◌ {A = ℕ} 0 1 = cc in absurd (omega arith))
 
 -- ---- checks 1 to 6 as the code decides them: those that look at the header first, and of a short form then the table
 
@@ -158,13 +156,13 @@ module _ (s : Setting) (r : List ℕ) (fits : misfit s r ≡ false) (well : ill_
   long_routed l z = left_is z ∙ simp l
 
   -- a short form that the header lets pass, by what the code finds for it
-  pub short_routed : in_short (header_of r) ≡ true → routed ≡ 0 → (f : Found) → f ≡ point_for s.table (header_of r) → judged_of s r ≡ switched (header_of r) f
+  pub short_routed : in_short (header_of r) ≡ true → routed ≡ 0 → (f : Option Attribute) → f ≡ point_for s.table (header_of r) → judged_of s r ≡ switched (header_of r) f
   short_routed l z f e =
       let sought = sought_short s.table (header_of r) l in
       split (short_write (header_of r) && takes_state (first_network s.table 0))
       (λ t.
       switch_judged s r l (left_is z ∙ simp (sought, l, t))
-      ∙ ap (λ (g : Found). switched (header_of r) g) (sought ∙ sym (point_taken s.table (header_of r) t) ∙ sym e))
+      ∙ ap (λ (g : Option Attribute). switched (header_of r) g) (sought ∙ sym (point_taken s.table (header_of r) t) ∙ sym e))
       (λ t.
       let five : first_of (quiet_checks s r) ≡ 5 = left_is z ∙ simp (sought, l, t) in
       quiet_judged s r (λ q. omega (arith, five, q))
@@ -179,11 +177,11 @@ is_long (Plain u b) = true
 is_long (Fragment u number total b) = true
 
 -- checks 9 to 12 of a Write
-write_as_checks : (h : Header) → h.service ≡ write_service → (m : Message) → is_long m ≡ true → (f : Found)
+write_as_checks : (h : Header) → h.service ≡ write_service → (m : Message) → is_long m ≡ true → (f : Option Attribute)
     → write_plan h.object m f ≡ plan_by (first_of (attribute_checks h m f)) h.object (served h m f)
 unfolding write_plan body_plan piece_plan
-write_as_checks h e m l Nothing = refl
-write_as_checks h e m l (At a) = split (writable a) (λ t. go m l t) (λ t. simp (read, t))
+write_as_checks h e m l None = refl
+write_as_checks h e m l (Some a) = split (writable a) (λ t. go m l t) (λ t. simp (read, t))
   where
     read : eqb h.service read_service ≡ false
     read = ne_eqb h.service read_service (λ q. omega (arith, q))
@@ -192,7 +190,7 @@ write_as_checks h e m l (At a) = split (writable a) (λ t. go m l t) (λ t. simp
     write = eq-eqb h.service write_service e
 
     go : (m : Message) → is_long m ≡ true → writable a ≡ true
-        → write_plan h.object m (At a) ≡ plan_by (first_of (attribute_checks h m (At a))) h.object (served h m (At a))
+        → write_plan h.object m (Some a) ≡ plan_by (first_of (attribute_checks h m (Some a))) h.object (served h m (Some a))
     go (Short d q v) l t = clash l refl
     go (Plain u b) l t = split (eqb b.len a.len) (λ q. simp (read, write, t, q)) (λ q. simp (read, write, t, q))
     go (Fragment u n k b) l t =
@@ -228,18 +226,18 @@ module _ (table r : List ℕ) (ordered : Ordered table) (l : in_short (header_of
       simp (a, t, five, four) (by_found m five four (sought_in table (header_of r))))
     where
       by_found : message_of r ≡ Plain (subject_of (header_of r)) (data_of (payload_of r))
-          → eqb (header_of r).service read_service ≡ true → eqb (header_of r).service write_service ≡ false → (f : Found)
+          → eqb (header_of r).service read_service ≡ true → eqb (header_of r).service write_service ≡ false → (f : Option Attribute)
           → read_found (header_of r).object f
           ≡ plan_by (first_of (attribute_checks (header_of r) (message_of r) f)) (header_of r).object (served (header_of r) (message_of r) f)
-      by_found m five four Nothing = refl
-      by_found m five four (At x) = split (readable x) (λ t. simp (m, five, four, t)) (λ t. simp (m, five, four, t))
+      by_found m five four None = refl
+      by_found m five four (Some x) = split (readable x) (λ t. simp (m, five, four, t)) (λ t. simp (m, five, four, t))
 
   module _ (e : (header_of r).service ≡ write_service) where
     no_action : action_or_event (header_of r) ≡ false
     no_action = le-ltb 5 (header_of r).service (omega arith)
 
     -- a Write that the codec refuses is of the shape that check 8 refuses
-    refused_request : (k : ℕ) → length r ≡ 10 → read_of r ≡ Refused k → Error 8 (header_of r).object ≡ request_plan table r
+    refused_request : (k : ℕ) → length r ≡ 10 → read_of r ≡ Err k → Error 8 (header_of r).object ≡ request_plan table r
     refused_request k n f =
         split (bad_shape (header_of r))
         (λ t. simp (no_action, t))
@@ -249,7 +247,7 @@ module _ (table r : List ℕ) (ordered : Ordered table) (l : in_short (header_of
         absurd (omega arith))
 
     -- and of one that it reads, checks 9 to 12 are left
-    write_request : (m : Message) → read_of r ≡ Got m
+    write_request : (m : Message) → read_of r ≡ Ok m
         → (is_long m ≡ true)
         × (plan_by (first_of (attribute_checks (header_of r) m (sought_in table (header_of r)))) (header_of r).object (served (header_of r) m (sought_in table (header_of r))) ≡ request_plan table r)
     unfolding holds_at
@@ -284,10 +282,10 @@ module _ (table r : List ℕ) (ordered : Ordered table) (l : in_short (header_of
           → plan_by_service table (header_of r) r ≡ answered (header_of r).object (sought_in table (header_of r)) (read_of r)
       of_write t q = rw found_so (simp (t, q))
 
-      by_answer : (header_of r).service ≡ write_service → (a : Answer) → read_of r ≡ a
+      by_answer : (header_of r).service ≡ write_service → (a : Result Message ℕ) → read_of r ≡ a
           → answered (header_of r).object (sought_in table (header_of r)) a ≡ request_plan table r
-      by_answer e (Refused k) p = refused_request e k n p
-      by_answer e (Got m) p =
+      by_answer e (Err k) p = refused_request e k n p
+      by_answer e (Ok m) p =
           let w = write_request e m p in
           write_as_checks (header_of r) e m w.0 (sought_in table (header_of r)) ∙ w.1
 

@@ -2,10 +2,10 @@
 ghost use Rattle.std.specs.Prelude.{◌≡◌};
 ghost use Rattle.judge.specs.Code.{sought_by, piece_plan, body_plan, write_plan, read_plan, plan_by_service};
 
-use codec::{Answer, Header, Message};
+use codec::{Header, Message};
 use guest::Plan;
 use octets::Data;
-use table::{Attribute, Found};
+use table::Attribute;
 
 // Check 12 of a fragment.
 fn piece_plan(object: u8, to: Attribute, number: u8, total: u8, body: Data) -> Plan
@@ -57,7 +57,7 @@ fn write_plan(table: &[u8], h: Header, m: Message) -> Plan
     ensures { result ≡ write_plan h.object m (sought_by table.now h) }
 {
     let object = h.object;
-    let Found::At(a) = table::find(table, object, h.id) else {
+    let Some(a) = table::find(table, object, h.id) else {
         return Plan::Error { number: 9, object };
     };
     if table::may_write(a) {
@@ -77,7 +77,7 @@ fn read_plan(table: &[u8], h: Header) -> Plan
     if h.dlc != 2 {
         return Plan::Error { number: 8, object };
     }
-    let Found::At(a) = table::find(table, object, h.id) else {
+    let Some(a) = table::find(table, object, h.id) else {
         return Plan::Error { number: 9, object };
     };
     if table::may_read(a) {
@@ -97,7 +97,7 @@ pub fn request_plan(table: &[u8], h: Header, frame: &[u8]) -> Plan
     if h.service == codec::READ_SERVICE {
         return read_plan(table, h);
     }
-    let Answer::Got(m) = codec::read(frame) else {
+    let Ok(m) = codec::read(frame) else {
         // The codec gives no message of a fragment without number and total; of the rest that it refuses, checks 3 and 5 left nothing.
         return Plan::Error { number: 8, object };
     };

@@ -5,7 +5,7 @@ ghost use Rattle.guest.specs.Step.{state_of};
 ghost use Rattle.judge.specs.Code.{point_for};
 
 use codec::Header;
-use table::Found;
+use table::Attribute;
 
 // Whether its service is Write ON or Write OFF.
 fn is_short_write(h: Header) -> bool
@@ -18,22 +18,20 @@ fn is_short_write(h: Header) -> bool
 }
 
 // The record that a frame in short form gives its state to: object 0's first network record, where the frame is a short Write and the record takes it.
-pub fn point_for(table: &[u8], h: Header) -> Found
+pub fn point_for(table: &[u8], h: Header) -> Option<Attribute>
     ensures { result ≡ point_for table.now h }
 {
     if !is_short_write(h) {
-        return Found::Nothing;
+        return None;
     }
-    let Found::At(a) = table::first_network(table, 0) else {
-        return Found::Nothing;
-    };
+    let a = table::first_network(table, 0)?;
     if !table::single_boolean(a) {
-        return Found::Nothing;
+        return None;
     }
     if table::may_write(a) {
-        return Found::At(a);
+        return Some(a);
     }
-    Found::Nothing
+    None
 }
 
 // ON is 1, OFF is 0.

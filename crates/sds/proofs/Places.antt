@@ -15,7 +15,7 @@ use Rattle.octets.specs.declared.Data.{Data}
 use Rattle.octets.specs.Data.{data_of}
 use Rattle.codec.specs.declared.Header.{Header}
 use Rattle.codec.specs.declared.Subject.{Subject}
-use Rattle.codec.specs.declared.Answer.TheVariants.{Got, Refused}
+use Rattle.std.specs.Prelude.{Ok, Err}
 use Rattle.codec.specs.Fields.{header_of}
 use Rattle.codec.specs.Reading.{read_checks, subject_of, short_of, message_of, read_of}
 use Rattle.codec.specs.Code.{payload_data, unprefixed}
@@ -97,17 +97,16 @@ put_is_message r e =
 
 -- ---- what reading answers and leaves
 
-module _ (r l : List ℕ) (n : length l ≡ message_size) (k : ℕ) (e : k ≡ first_of (read_checks r)) where
-  pub read_done : k ≡ 0 → (x : List ℕ) → x ≡ put_message (record_message r) l → (0 ≡ border_read_number r l) × (x ≡ border_read r l)
+module _ (r l : List ℕ) (n : length l ≡ message_size) where
+  pub read_done : first_of (read_checks r) ≡ 0 → (x : List ℕ) → x ≡ put_message (record_message r) l → (0 ≡ border_read_number r l) × (x ≡ border_read r l)
   unfolding read_of border_read_number border_read
   read_done z x f =
       let s = eq-eqb (length l) message_size n in
-      let g : read_of r ≡ Got (message_of r) = simp (eq-eqb (first_of (read_checks r)) 0 (sym e ∙ z)) in
-      (simp (s, g), f ∙ simp (s, g) (put_is_message r (sym e ∙ z)))
+      let g : read_of r ≡ Ok (message_of r) = simp (eq-eqb (first_of (read_checks r)) 0 z) in
+      (simp (s, g), f ∙ simp (s, g) (put_is_message r z))
 
-  pub read_refused : (k ≡ 0 → ⊥) → (k ≡ border_read_number r l) × (l ≡ border_read r l)
-  unfolding read_of border_read_number border_read
-  read_refused h =
+  pub read_refused : (k : ℕ) → Err k ≡ read_of r → (k ≡ border_read_number r l) × (l ≡ border_read r l)
+  unfolding border_read_number border_read
+  read_refused k e =
       let s = eq-eqb (length l) message_size n in
-      let f : read_of r ≡ Refused (first_of (read_checks r)) = simp (ne_eqb (first_of (read_checks r)) 0 (λ q. h (e ∙ q))) in
-      (e ∙ simp (s, f), simp (s, f))
+      (simp (s, ← e), simp (s, ← e))

@@ -14,8 +14,7 @@ use Rattle.laws.specs.Checks.{Check, first_of, holds_at, FirstAt}
 use Rattle.laws.proofs.Tests.{split, clash}
 use Rattle.laws.proofs.Checks.{above, given_exactly, none_holds}
 use Rattle.octets.specs.Data.{data_of}
-use Rattle.codec.specs.declared.Answer.{Answer}
-use Rattle.codec.specs.declared.Answer.TheVariants.{Got, Refused}
+use Rattle.std.specs.Prelude.{Result, Ok, Err}
 use Rattle.codec.specs.declared.Message.{Message}
 use Rattle.codec.specs.declared.Message.TheVariants.{Short, Plain, Fragment}
 use Rattle.codec.specs.Names.{frame_size, most_address}
@@ -77,9 +76,9 @@ table_refused_exactly t size n h = given_exactly (table_checks t size) refl n h
 
 -- ---- what is refused stays as it was
 
-unanswered : (a : Answer) (l : List ℕ) → (number_of a ≡ 0 → ⊥) → answered_in a l ≡ l
-unanswered (Got m) l h = absurd (h refl)
-unanswered (Refused n) l h = refl
+unanswered : (a : Result Message ℕ) (l : List ℕ) → (number_of a ≡ 0 → ⊥) → answered_in a l ≡ l
+unanswered (Ok m) l h = absurd (h refl)
+unanswered (Err n) l h = refl
 
 pub refused_message_unchanged : (r l : List ℕ) → (border_read_number r l ≡ 0 → ⊥) → border_read r l ≡ l
 unfolding border_read_number border_read
@@ -93,11 +92,11 @@ refused_record_unchanged l r h = simp (ne_eqb (border_write_number l r) 0 h)
 -- ---- what a call that is not refused leaves
 
 -- the codec's number is 0 for a message only
-is_read : (r : List ℕ) → number_of (read_of r) ≡ 0 → read_of r ≡ Got (message_of r)
+is_read : (r : List ℕ) → number_of (read_of r) ≡ 0 → read_of r ≡ Ok (message_of r)
 unfolding read_of
 is_read r e = simp (eq-eqb (first_of (read_checks r)) 0 ((none_holds (read_checks r) refl).1 ((codec.reads_exactly r).0 e)))
 
-pub read_leaves : (r l : List ℕ) → border_read_number r l ≡ 0 → (read_of r ≡ Got (message_of r)) × (border_read r l ≡ message_bytes (message_of r))
+pub read_leaves : (r l : List ℕ) → border_read_number r l ≡ 0 → (read_of r ≡ Ok (message_of r)) × (border_read r l ≡ message_bytes (message_of r))
 unfolding border_read_number border_read
 read_leaves r l e =
     split (eqb (length l) 16)
@@ -145,7 +144,7 @@ written_is_read l r e k n =
     (simp (w.2, z, g), simp (w.2, z, g) w.0)
 
 -- a message is refused with 3 only if no record reads as it
-pub refused_is_unread : (l s : List ℕ) → border_write_number l s ≡ 3 → (r : List ℕ) (m : Message) → read_of r ≡ Got m → message_bytes m ≡ l → ⊥
+pub refused_is_unread : (l s : List ℕ) → border_write_number l s ≡ 3 → (r : List ℕ) (m : Message) → read_of r ≡ Ok m → message_bytes m ≡ l → ⊥
 unfolding holds_at
 refused_is_unread l s e r m g i =
     let h = ((write_refuses_exactly l s 3 (omega arith)).0 e).0 in

@@ -1,5 +1,5 @@
 -- What C sees: a message as 16 bytes, and what each entry point answers.
-use Rattle.std.specs.Prelude.{ℕ, ◌+◌, ◌*◌, Bool, cond, not, ◌&&◌, ◌||◌, List, [], ◌∷◌, length, drop, eqb, ltb}
+use Rattle.std.specs.Prelude.{ℕ, ◌+◌, ◌*◌, Bool, cond, not, ◌&&◌, ◌||◌, List, [], ◌∷◌, length, drop, eqb, ltb, Result, Ok, Err}
 use Rattle.laws.specs.Bytes.{byte_at, zeros}
 use Rattle.laws.specs.Checks.{Check, first_of}
 use Rattle.octets.specs.declared.Data.{Data}
@@ -8,8 +8,6 @@ use Rattle.codec.specs.declared.Header.{Header}
 use Rattle.codec.specs.declared.Subject.{Subject}
 use Rattle.codec.specs.declared.Message.{Message}
 use Rattle.codec.specs.declared.Message.TheVariants.{Short, Plain, Fragment}
-use Rattle.codec.specs.declared.Answer.{Answer}
-use Rattle.codec.specs.declared.Answer.TheVariants.{Got, Refused}
 use Rattle.codec.specs.Names.{frame_size}
 use Rattle.codec.specs.Fields.{header_of}
 use Rattle.codec.specs.Reading.{subject_of, read_of, number_of}
@@ -96,9 +94,9 @@ unfoldable pub border_read_number : List ℕ → List ℕ → ℕ
 border_read_number r l = cond (eqb (length l) message_size) (number_of (read_of r)) 1
 
 -- the message buffer afterwards: the message that was read; "nothing alters" where reading is refused
-abbrev pub answered_in : Answer → List ℕ → List ℕ
-answered_in (Got m) l = message_bytes m
-answered_in (Refused n) l = l
+abbrev pub answered_in : Result Message ℕ → List ℕ → List ℕ
+answered_in (Ok m) l = message_bytes m
+answered_in (Err n) l = l
 
 unfoldable pub border_read : List ℕ → List ℕ → List ℕ
 border_read r l = cond (eqb (length l) message_size) (answered_in (read_of r) l) l

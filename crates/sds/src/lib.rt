@@ -10,7 +10,7 @@ ghost use Rattle.sds.specs.Border.{border_read_number, border_read, border_write
 ghost use Rattle.guest.specs.Errors.{code_of};
 ghost use Rattle.guest.specs.Step.{areas, call, step_of};
 
-use messages::{MESSAGE, bordered, message_at, put_message};
+use messages::{read_into, write_from};
 
 // One frame: what the device answers, number + 256 * count. Its frames stand at the front of the output.
 pub fn sds_step(
@@ -32,31 +32,20 @@ pub fn sds_step(
 pub fn sds_read(frame: &[u8], message: &mut [u8]) -> u32
     ensures { (result ≡ border_read_number frame.now message.old) × (message.new ≡ border_read frame.now message.old) }
 {
-    if message.len() != MESSAGE {
-        return 1;
+    match read_into(frame, message) {
+        Ok(()) => 0,
+        Err(e) => e.number() as u32,
     }
-    let n = codec::refusal_of(frame);
-    if n != 0 {
-        return n as u32;
-    }
-    put_message(frame, message);
-    0
 }
 
 // Writes the record that carries a message. Refused are 1 (not 16 bytes, or not ten) and then 3 (no readable frame carries it), and the record stays.
 pub fn sds_write(message: &[u8], frame: &mut [u8]) -> u32
     ensures { (result ≡ border_write_number message.now frame.old) × (frame.new ≡ border_write message.now frame.old) }
 {
-    if message.len() != MESSAGE {
-        return 1;
+    match write_from(message, frame) {
+        Ok(()) => 0,
+        Err(e) => e.number() as u32,
     }
-    if frame.len() != codec::FRAME_SIZE {
-        return 1;
-    }
-    if !bordered(message) {
-        return 3;
-    }
-    codec::write(message_at(message), frame) as u32
 }
 
 // The size of what a data descriptor describes; 0 where it is refused. It is 32 bits wide so that one above 16 bits is refused and not cut.

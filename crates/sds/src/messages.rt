@@ -1,14 +1,16 @@
 // A message as the 16 bytes that C lends.
 ghost use Rattle.std.specs.Prelude.{◌≡◌, cond, ◌&&◌, eqb, length, drop};
 ghost use Rattle.laws.specs.Bytes.{byte_at, zeros};
+ghost use Rattle.codec.specs.Reading.{number_of, numbered};
+ghost use Rattle.codec.specs.Writing.{written_number};
 ghost use Rattle.codec.specs.Code.{payload_data};
-ghost use Rattle.sds.specs.Border.{long_message, record_message, put_message, long_bytes, short_subject, subject_at, data_at, message_at, bordered};
+ghost use Rattle.sds.specs.Border.{long_message, record_message, put_message, long_bytes, short_subject, subject_at, data_at, message_at, bordered, border_read_number, border_read, border_write_number, border_write};
 
-use codec::{Header, Message, Subject};
+use codec::{FRAME_SIZE, Header, Message, ReadError, Subject, WriteError};
 use octets::{Data, byte_at};
 
 // The bytes of a message.
-pub(crate) const MESSAGE: usize = 16;
+const MESSAGE: usize = 16;
 
 // Puts the 16 bytes of a message, place by place. A buffer of another length stays.
 fn put_places(kind: u8, u: Subject, number: u8, total: u8, b: Data, message: &mut [u8])
@@ -69,7 +71,7 @@ fn put_long_message(frame: &[u8], h: Header, message: &mut [u8])
 }
 
 // Puts the message of a record. Nothing is tested but the buffer's length: of a record that the codec refuses it is no message.
-pub(crate) fn put_message(frame: &[u8], message: &mut [u8])
+fn put_message(frame: &[u8], message: &mut [u8])
     ensures { message.new ≡ put_message (record_message frame.now) message.old }
 {
     let h = codec::header_of(frame);
@@ -108,7 +110,7 @@ fn data_at(message: &[u8]) -> Data
 }
 
 // The message of 16 bytes, by their kind. Every kind above 1 is taken for a fragment here: `bordered` tells it from 2.
-pub(crate) fn message_at(message: &[u8]) -> Message
+fn message_at(message: &[u8]) -> Message
     ensures { result ≡ message_at message.now }
 {
     let kind = byte_at(message, 0);
@@ -157,7 +159,7 @@ fn unnumbered(message: &[u8]) -> bool
 }
 
 // Whether a kind is one of the three, and each place that it does not use is 0.
-pub(crate) fn bordered(message: &[u8]) -> bool
+fn bordered(message: &[u8]) -> bool
     ensures { result ≡ bordered message.now }
 {
     let kind = byte_at(message, 0);
@@ -171,4 +173,30 @@ pub(crate) fn bordered(message: &[u8]) -> bool
         return unnumbered(message);
     }
     true
+}
+
+// Reads a record into the bytes of a message, which stay where it is refused.
+pub(crate) fn read_into(frame: &[u8], message: &mut [u8]) -> Result<(), ReadError>
+    ensures { (number_of (numbered result) ≡ border_read_number frame.now message.old) × (message.new ≡ border_read frame.now message.old) }
+{
+    if message.len() != MESSAGE {
+        return Err(ReadError::Size);
+    }
+    codec::readable(frame)?;
+    put_message(frame, message);
+    Ok(())
+}
+
+// Writes the record that carries a message, which stays where it is refused.
+#[tactic(auto, unfolding(crate::specs::Border::border_write_number, crate::specs::Border::border_write, codec::specs::Writing::write_number, codec::specs::Writing::written_of))]
+pub(crate) fn write_from(message: &[u8], frame: &mut [u8]) -> Result<(), WriteError>
+    ensures { (written_number result ≡ border_write_number message.now frame.old) × (frame.new ≡ border_write message.now frame.old) }
+{
+    if message.len() != MESSAGE || frame.len() != FRAME_SIZE {
+        return Err(WriteError::Size);
+    }
+    if !bordered(message) {
+        return Err(WriteError::Unfit);
+    }
+    codec::write(message_at(message), frame)
 }

@@ -1,4 +1,5 @@
 -- Lengths that fit and a well-formed table, in words; and what a search in a well-formed table finds.
+use Rattle.std.proofs.Common.{Some}
 use Prim.Native.Nat.{ℕ, zero, suc, ◌+◌, ◌*◌, ◌%◌, ◌≤◌, ◌<◌}
 use mathlib.Core.Path.{◌≡◌, refl, subst}
 use mathlib.Core.Bool.{Bool, true, ◌&&◌}
@@ -10,7 +11,6 @@ use lib.Dec.{eqb}
 use borrow.Author.Tests.{leb-true, eqb-true, lt-ltb, le-ltb, le-leb, eq-eqb}
 use Rattle.laws.proofs.Tests.{split, halves}
 use Rattle.table.specs.declared.Attribute.{Attribute}
-use Rattle.table.specs.declared.Found.TheVariants.{At}
 use Rattle.table.specs.Descriptor.{boolean_type, type_of, elements_of}
 use Rattle.table.specs.Table.{entry_size, most_entries, most_store, lengths_fit, LengthsFit, attributes, network, described, entry_fits, pair_of, end_of, well_from, well_formed, Ordered, WellFormed, first_in, named, find, searched, network_of, first_network, single_boolean, part_of, owner_in}
 
@@ -78,12 +78,12 @@ ends least end (a ∷ es) size e =
 
 -- ---- the first record that a test takes
 
-pub found_passes : (test : Attribute → Bool) (es : List Attribute) (a : Attribute) → first_in test es ≡ At a → test a ≡ true
+pub found_passes : (test : Attribute → Bool) (es : List Attribute) (a : Attribute) → first_in test es ≡ Some a → test a ≡ true
 unfolding first_in
 found_passes test [] a e = let z : ◌≡◌ {A = ℕ} 0 1 = cc in absurd (omega arith)
 found_passes test (x ∷ es) a e =
     split (test x)
-    (λ t. let q : x ≡ a = let y : At x ≡ At a = simp t at e in cc in rw (← q) t)
+    (λ t. let q : x ≡ a = let y : Some x ≡ Some a = simp t at e in cc in rw (← q) t)
     (λ f. found_passes test es a (simp f at e))
 
 -- in a well-formed table it fits by itself, its part stands in the store, and the bytes there are its object's
@@ -94,14 +94,14 @@ pub record Placed (es : List Attribute) (size : ℕ) (a : Attribute) : Type 0 wh
 
 -- from a place on: it stands there or behind
 placed_from : (test : Attribute → Bool) (least end : ℕ) (es : List Attribute) (size : ℕ) (a : Attribute) → well_from least end es size ≡ true
-    → first_in test es ≡ At a → (end ≤ a.offset) × Placed es size a
+    → first_in test es ≡ Some a → (end ≤ a.offset) × Placed es size a
 unfolding first_in owner_in
 placed_from test least end [] size a w e = let z : ◌≡◌ {A = ℕ} 0 1 = cc in absurd (omega arith)
 placed_from test least end (x ∷ es) size a w e =
     let p = row least end x es size w in
     split (test x)
     (λ t.
-    let q : x ≡ a = let y : At x ≡ At a = simp t at e in cc in
+    let q : x ≡ a = let y : Some x ≡ Some a = simp t at e in cc in
     subst (λ (b : Attribute). (end ≤ b.offset) × Placed (x ∷ es) size b) q (
       omega (arith, p.offset),
       record {
@@ -120,18 +120,18 @@ placed_from test least end (x ∷ es) size a w e =
       },
     ))
 
-pub placed : (test : Attribute → Bool) (t : List ℕ) (size : ℕ) (a : Attribute) → well_formed t size ≡ true → first_in test (attributes t) ≡ At a
+pub placed : (test : Attribute → Bool) (t : List ℕ) (size : ℕ) (a : Attribute) → well_formed t size ≡ true → first_in test (attributes t) ≡ Some a
     → Placed (attributes t) size a
 unfolding well_formed
 placed test t size a w e = (placed_from test 0 0 (attributes t) size a w e).1
 
 -- the record of (object, ID)
-pub found_placed : (t : List ℕ) (size object id : ℕ) (a : Attribute) → well_formed t size ≡ true → find t object id ≡ At a
+pub found_placed : (t : List ℕ) (size object id : ℕ) (a : Attribute) → well_formed t size ≡ true → find t object id ≡ Some a
     → Placed (attributes t) size a
 unfolding find
 found_placed t size object id a w e = placed (named object id) t size a w e
 
-pub found_named : (t : List ℕ) (object id : ℕ) (a : Attribute) → find t object id ≡ At a → (a.object ≡ object) × (a.id ≡ id)
+pub found_named : (t : List ℕ) (object id : ℕ) (a : Attribute) → find t object id ≡ Some a → (a.object ≡ object) × (a.id ≡ id)
 unfolding find
 found_named t object id a e =
     let n = halves _ (found_passes (named object id) (attributes t) a e) in
@@ -142,12 +142,12 @@ pub search_finds : (t : List ℕ) (object id : ℕ) → Ordered t → searched t
 search_finds t object id o = refl
 
 -- the first network record of an object
-pub network_placed : (t : List ℕ) (size object : ℕ) (a : Attribute) → well_formed t size ≡ true → first_network t object ≡ At a
+pub network_placed : (t : List ℕ) (size object : ℕ) (a : Attribute) → well_formed t size ≡ true → first_network t object ≡ Some a
     → Placed (attributes t) size a
 unfolding first_network
 network_placed t size object a w e = placed (network_of object) t size a w e
 
-pub network_its : (t : List ℕ) (object : ℕ) (a : Attribute) → first_network t object ≡ At a → (a.object ≡ object) × (network a ≡ true)
+pub network_its : (t : List ℕ) (object : ℕ) (a : Attribute) → first_network t object ≡ Some a → (a.object ≡ object) × (network a ≡ true)
 unfolding first_network
 network_its t object a e =
     let n = halves _ (found_passes (network_of object) (attributes t) a e) in

@@ -1,9 +1,7 @@
 -- The object table and the store (01, "Object table, store, work area").
-use Rattle.std.specs.Prelude.{ℕ, zero, suc, ◌+◌, ◌*◌, ◌/◌, ◌%◌, ◌≤◌, ◌<◌, ◌≡◌, Bool, true, cond, ◌&&◌, List, [], ◌∷◌, length, get_or, take, drop, eqb, leb, ltb}
+use Rattle.std.specs.Prelude.{ℕ, zero, suc, ◌+◌, ◌*◌, ◌/◌, ◌%◌, ◌≤◌, ◌<◌, ◌≡◌, Bool, true, cond, ◌&&◌, List, [], ◌∷◌, length, get_or, take, drop, eqb, leb, ltb, Option, Some, None}
 use Rattle.laws.specs.Bytes.{bits, byte_at}
 use Rattle.table.specs.declared.Attribute.{Attribute}
-use Rattle.table.specs.declared.Found.{Found}
-use Rattle.table.specs.declared.Found.TheVariants.{At, Nothing}
 use Rattle.table.specs.Descriptor.{boolean_type, type_of, elements_of, descriptor_size}
 
 -- "8-byte records, no header, at most 1,024"
@@ -100,26 +98,26 @@ pub record WellFormed (es : List Attribute) (size : ℕ) (default : Attribute) :
   pub last : (i : ℕ) → suc i ≡ length es → end_of (get_or es i default) ≤ size
 
 -- the first record that a test takes, in every table, well formed or not
-unfoldable pub first_in : (Attribute → Bool) → List Attribute → Found
-first_in test [] = Nothing
-first_in test (a ∷ es) = cond (test a) (At a) (first_in test es)
+unfoldable pub first_in : (Attribute → Bool) → List Attribute → Option Attribute
+first_in test [] = None
+first_in test (a ∷ es) = cond (test a) (Some a) (first_in test es)
 
 -- the record of an object and an attribute ID (check 9: "no such (object, attribute)")
 abbrev pub named : ℕ → ℕ → Attribute → Bool
 named object id a = eqb a.object object && eqb a.id id
 
-unfoldable pub find : List ℕ → ℕ → ℕ → Found
+unfoldable pub find : List ℕ → ℕ → ℕ → Option Attribute
 find t object id = first_in (named object id) (attributes t)
 
 -- what the code's search gives, in every table; where the table is ordered this is what `find` gives (`search_finds`), and only there it need be
-abbrev pub searched : List ℕ → ℕ → ℕ → Found
+abbrev pub searched : List ℕ → ℕ → ℕ → Option Attribute
 searched t object id = find t object id
 
 -- the first network record of an object (02, 2026-01)
 abbrev pub network_of : ℕ → Attribute → Bool
 network_of object a = network a && eqb a.object object
 
-unfoldable pub first_network : List ℕ → ℕ → Found
+unfoldable pub first_network : List ℕ → ℕ → Option Attribute
 first_network t object = first_in (network_of object) (attributes t)
 
 -- "a single Boolean (N = 1, one byte)" (02, 2026-01)

@@ -2,9 +2,9 @@
 ghost use Rattle.std.specs.Prelude.{◌≡◌};
 ghost use Rattle.table.specs.Table.{named, searched, network_of, first_network, part_of};
 
+use crate::Attribute;
 use crate::entries::{attribute_at, end_of, is_network};
 use crate::sizes::ENTRY;
-use crate::{Attribute, Found};
 
 // Whether it is the attribute of this object and ID.
 fn named(object: u8, id: u8, a: Attribute) -> bool
@@ -17,18 +17,18 @@ fn named(object: u8, id: u8, a: Attribute) -> bool
 }
 
 // The record of (object, ID), in any table, well formed or not: one walk, to the first that bears the name.
-pub fn find(table: &[u8], object: u8, id: u8) -> Found
+pub fn find(table: &[u8], object: u8, id: u8) -> Option<Attribute>
     ensures { result ≡ searched table.now object id }
 {
     let mut at: usize = 0;
     while at + ENTRY <= table.len() {
         let a = attribute_at(table, at);
         if named(object, id, a) {
-            return Found::At(a);
+            return Some(a);
         }
         at += ENTRY;
     }
-    Found::Nothing
+    None
 }
 
 // Whether it is network data of this object.
@@ -42,18 +42,18 @@ fn network_of(object: u8, a: Attribute) -> bool
 }
 
 // The first network record of an object, in table order (02, 2026-01).
-pub fn first_network(table: &[u8], object: u8) -> Found
+pub fn first_network(table: &[u8], object: u8) -> Option<Attribute>
     ensures { result ≡ first_network table.now object }
 {
     let mut place: usize = 0;
     while place + ENTRY <= table.len() {
         let a = attribute_at(table, place);
         if network_of(object, a) {
-            return Found::At(a);
+            return Some(a);
         }
         place += ENTRY;
     }
-    Found::Nothing
+    None
 }
 
 // An attribute's part of the lent store, "which the lookup hands back as a part of the caller's store"; empty where it would run past its end.

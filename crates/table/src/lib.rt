@@ -21,10 +21,3 @@ pub struct Attribute {
     pub offset: u16,
     pub descriptor: u16,
 }
-
-// What a search of the table finds.
-#[derive(Clone, Copy)]
-pub enum Found {
-    At(Attribute),
-    Nothing,
-}

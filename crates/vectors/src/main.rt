@@ -4,14 +4,14 @@
 mod examples;
 mod words;
 
-use codec::{Answer, Message};
+use codec::Message;
 use examples::{COUNT, LABEL, ROW};
 use std::io;
 
 // Whether writing the message gives the record, all ten bytes of it. No example has the byte that is in each place before.
 fn written_back(m: Message, frame: &[u8]) -> bool {
     let mut again = [0xFF_u8; codec::FRAME_SIZE];
-    codec::write(m, &mut again) == 0 && &again[..] == frame
+    codec::write(m, &mut again).is_ok() && &again[..] == frame
 }
 
 fn ending(m: Message, frame: &[u8]) -> &'static str {
@@ -25,12 +25,15 @@ fn ending(m: Message, frame: &[u8]) -> &'static str {
 fn show(rt: &impl Print, label: &[u8], frame: &[u8]) -> io::Result<()> {
     rt.write_all(label)?;
     match codec::read(frame) {
-        Answer::Got(m) => {
+        Ok(m) => {
             words::print_message(rt, m)?;
             let end = ending(m, frame);
             println!(rt; "; {end}")
         }
-        Answer::Refused(n) => println!(rt; " refused {n}"),
+        Err(e) => {
+            let n = e.number();
+            println!(rt; " refused {n}")
+        }
     }
 }
 

@@ -3,6 +3,7 @@ use mathlib.Core.Path.{sym, ap, ◌∙◌}
 use borrow.Author.Tests.{not-true, not-false}
 use Rattle.codec.specs.declared.Header.{Header}
 use Rattle.codec.specs.Code.{payload_in}
+use Rattle.codec.proofs.Errors.{readable_unrefused, unreadable}
 use Rattle.collect.proofs.Groups.{guest_below, payload_part, numbered, misfit_call, malformed_call, short_call, unanswering_call, whole_call, fragment_call}
 use Rattle.collect.proofs.collecting.collect.Goals as goal
 
@@ -11,22 +12,22 @@ returns-then-work-ne-AREA c =
     let a = c.args in
     misfit_call a.frame.now a.work.now c.if-work-ne-AREA.true _ c.refused.ensures
 
-pub returns-then-refusal_of-ne0 : goal.returns-then-refusal_of-ne0
-returns-then-refusal_of-ne0 c =
+pub returns-then-is_err : goal.returns-then-is_err
+returns-then-is_err c =
     let a = c.args in
-    malformed_call a.frame.now a.work.now c.if-work-ne-AREA.false (λ z. c.if-refusal_of-ne0.true (c.refusal_of.ensures ∙ z)) _ c.refused-then-refusal_of-ne0.ensures
+    malformed_call a.frame.now a.work.now c.if-work-ne-AREA.false (unreadable _ _ c.readable.ensures (sym c.is_err.ensures.value ∙ c.if-is_err.true)) _ c.refused-then-is_err.ensures
 
 pub returns-then-h-eq0 : goal.returns-then-h-eq0
 returns-then-h-eq0 c =
     let a = c.args in
-    short_call a.frame.now a.work.now c.if-work-ne-AREA.false (sym c.refusal_of.ensures ∙ c.if-refusal_of-ne0.false)
+    short_call a.frame.now a.work.now c.if-work-ne-AREA.false (readable_unrefused _ _ c.readable.ensures (sym c.is_err.ensures.value ∙ c.if-is_err.false))
     (rw c.header_of-h.ensures at c.if-h-eq0.true) _ c.refused-then-h-eq0.ensures
 
 pub returns-then-not-answers_read : goal.returns-then-not-answers_read
 returns-then-not-answers_read c =
     let a = c.args in
     let is = c.header_of-h.ensures in
-    let got = sym c.refusal_of.ensures ∙ c.if-refusal_of-ne0.false in
+    let got = readable_unrefused _ _ c.readable.ensures (sym c.is_err.ensures.value ∙ c.if-is_err.false) in
     unanswering_call a.frame.now a.work.now c.if-work-ne-AREA.false got (rw is at c.if-h-eq0.false)
     (rw is at (sym c.answers_read.ensures ∙ not-true _ c.if-not-answers_read.true-raw)) _ c.refused-then-not-answers_read.ensures
 
@@ -34,14 +35,14 @@ pub returns-then-h-ne1 : goal.returns-then-h-ne1
 returns-then-h-ne1 c =
     let a = c.args in
     let is = c.header_of-h.ensures in
-    let got = sym c.refusal_of.ensures ∙ c.if-refusal_of-ne0.false in
+    let got = readable_unrefused _ _ c.readable.ensures (sym c.is_err.ensures.value ∙ c.if-is_err.false) in
     whole_call a.frame.now a.work.now c.if-work-ne-AREA.false got (rw is at c.if-h-eq0.false) (rw is at (sym c.answers_read.ensures ∙ not-false _ c.if-not-answers_read.false-raw)) (rw is at c.if-h-ne1.true) _ (rw is at c.whole.ensures)
 
 pub fragment-requires : goal.fragment-requires
 fragment-requires c =
     let a = c.args in
     let is = c.header_of-h.ensures in
-    let got = sym c.refusal_of.ensures ∙ c.if-refusal_of-ne0.false in
+    let got = readable_unrefused _ _ c.readable.ensures (sym c.is_err.ensures.value ∙ c.if-is_err.false) in
     let payload = c.payload_in.ensures ∙ ap (λ (d : ℕ). payload_in d a.frame.now) (ap (λ (h : Header). h.dlc) is) ∙ payload_part a.frame.now got in
     (record { sized = c.if-work-ne-AREA.false; below = rw is (guest_below a.frame.now got) }, rw payload (numbered a.frame.now got (rw is at c.if-h-eq0.false) (rw is at c.if-h-ne1.false)))
 
@@ -49,6 +50,6 @@ pub returns : goal.returns
 returns c =
     let a = c.args in
     let is = c.header_of-h.ensures in
-    let got = sym c.refusal_of.ensures ∙ c.if-refusal_of-ne0.false in
+    let got = readable_unrefused _ _ c.readable.ensures (sym c.is_err.ensures.value ∙ c.if-is_err.false) in
     let payload = c.payload_in.ensures ∙ ap (λ (d : ℕ). payload_in d a.frame.now) (ap (λ (h : Header). h.dlc) is) ∙ payload_part a.frame.now got in
     fragment_call a.frame.now a.work.now c.if-work-ne-AREA.false got (rw is at c.if-h-eq0.false) (rw is at (sym c.answers_read.ensures ∙ not-false _ c.if-not-answers_read.false-raw)) (rw is at c.if-h-ne1.false) _ _ (rw (is, payload) at c.fragment.ensures)

@@ -10,4 +10,4 @@ pub returns : goal.returns
 returns c =
     let a = c.args in
     λ work. switch_outcome a.table.now a.own a.h a.store.now a.out.now _ c.point_for.ensures work
-    c.requires _ c.in-At.is _ c.state_of.ensures _ _ c.store_state.ensures c.acknowledge_short.ensures
+    c.requires _ c.in-Some.is _ c.state_of.ensures _ _ c.store_state.ensures c.acknowledge_short.ensures

@@ -21,12 +21,12 @@ pub returns-then-may_read : goal.returns-then-may_read
 unfolding read_plan
 returns-then-may_read c =
     simp (ne_eqb _ _ c.if-h-eq1.false, eq-eqb _ _ c.if-h-ne2.false)
-    (rw (sym c.find.ensures ∙ c.in-At.is)
+    (rw (sym c.find.ensures ∙ c.in-Some.is)
     (simp (sym c.may_read.ensures ∙ c.if-may_read.true)))
 
 pub returns : goal.returns
 unfolding read_plan
 returns c =
     simp (ne_eqb _ _ c.if-h-eq1.false, eq-eqb _ _ c.if-h-ne2.false)
-    (rw (sym c.find.ensures ∙ c.in-At.is)
+    (rw (sym c.find.ensures ∙ c.in-Some.is)
     (simp (sym c.may_read.ensures ∙ c.if-may_read.false)))

@@ -1,5 +1,6 @@
-use mathlib.Core.Path.{sym, ◌∙◌}
+use mathlib.Core.Path.{sym, ap, ◌∙◌}
 use borrow.Author.Tests.{eq-eqb, ne_eqb, lt-ltb, le-ltb}
+use Rattle.codec.specs.Reading.{numbered}
 use Rattle.judge.specs.Code.{plan_by_service}
 use Rattle.judge.proofs.judging.request_plan.Goals as goal
 
@@ -15,10 +16,10 @@ pub returns-in_default : goal.returns-in_default
 unfolding plan_by_service
 returns-in_default c =
     simp (le-ltb _ _ c.if-h-gt-READ_SERVICE.false, ne_eqb _ _ c.if-h-eq-READ_SERVICE.false)
-    (rw (sym c.read.ensures ∙ c.in_default.is))
+    (rw (sym c.read.ensures ∙ ap numbered c.in_default.is))
 
 pub returns : goal.returns
 unfolding plan_by_service
 returns c =
     simp (le-ltb _ _ c.if-h-gt-READ_SERVICE.false, ne_eqb _ _ c.if-h-eq-READ_SERVICE.false)
-    (rw (sym c.read.ensures ∙ c.in-Got.is) c.write_plan.ensures)
+    (rw (sym c.read.ensures ∙ ap numbered c.in-Ok.is) c.write_plan.ensures)

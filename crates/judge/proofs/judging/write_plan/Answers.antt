@@ -9,11 +9,11 @@ returns-in_default c = rw (sym c.find.ensures ∙ c.in_default.is)
 pub returns-then-may_write : goal.returns-then-may_write
 unfolding write_plan
 returns-then-may_write c =
-    rw (sym c.find.ensures ∙ c.in-At.is)
+    rw (sym c.find.ensures ∙ c.in-Some.is)
     (simp (sym c.may_write.ensures ∙ c.if-may_write.true) c.body_plan.ensures)
 
 pub returns : goal.returns
 unfolding write_plan
 returns c =
-    rw (sym c.find.ensures ∙ c.in-At.is)
+    rw (sym c.find.ensures ∙ c.in-Some.is)
     (simp (sym c.may_write.ensures ∙ c.if-may_write.false))
