@@ -2,25 +2,29 @@
 ghost use Rattle.std.specs.Prelude.{◌≡◌, cond, length};
 ghost use Rattle.join.specs.Code.{join_fits, joined_from};
 
-use crate::place::{HEAD, room_from, start_of};
+use crate::Piece;
+use crate::place::{HEAD, record_at, start_of};
 
 // Puts the joined bytes, those held before the fragment's place and its own, into a part of that very length.
 // Where the area holds too few, or the part has another length, the part stays.
-pub fn join_into(work: &[u8], at: usize, width: u8, number: u8, body: &[u8], part: &mut [u8])
+pub fn join_into<const K: usize>(
+    work: &[u8],
+    at: usize,
+    width: u8,
+    piece: &Piece<K>,
+    part: &mut [u8],
+)
     ensures { part.new
-        ≡ cond (join_fits (length work.now) at width number (length body.now) (length part.old))
-        (joined_from work.now at width number body.now)
+        ≡ cond (join_fits (length work.now) at width piece.now.number (length piece.now.body.now) (length part.old))
+        (joined_from work.now at width piece.now.number piece.now.body.now)
         part.old }
 {
-    let held = start_of(width, number);
-    if room_from(work.len(), at) < HEAD + held {
+    let held = start_of(width, piece.number);
+    let Some(front) = record_at(work, at).get(HEAD..HEAD + held) else {
         return;
+    };
+    if part.len() == held + piece.body.len() {
+        octets::copy(front, part);
+        octets::copy(piece.body, &mut part[held..]);
     }
-    if part.len() != held + body.len() {
-        return;
-    }
-    let start = at + HEAD;
-    let end = start + held;
-    octets::copy(&work[start..end], part);
-    octets::copy(body, &mut part[held..]);
 }

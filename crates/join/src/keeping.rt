@@ -1,18 +1,20 @@
-// What a fragment that is not the last leaves in its record, and how a record is dropped.
-ghost use Rattle.std.specs.Prelude.{◌≡◌, cond, ◌∷◌, [], ◌+◌, ◌≤◌, ltb, length};
+// What a fragment leaves in its record, and how a record is dropped.
+ghost use Rattle.std.specs.Prelude.{◌≡◌, cond, ◌∷◌, [], ◌+◌, ◌*◌, ◌≤◌, ◌<◌, ltb, length};
 ghost use Rattle.laws.specs.Put.{put};
-ghost use Rattle.join.specs.Work.{dropped, head_size, simple, kept, area_after};
-ghost use Rattle.join.specs.Code.{keep_fits};
+ghost use Rattle.join.specs.Work.{dropped, head_size, collecting, kept, done, with_data, area_after};
+ghost use Rattle.join.specs.Code.{keep_fits, record_fits, key_fits, keyed_by, fragment};
 
-use crate::place::{HEAD, KEY, NEXT, TOTAL, room_from, start_of};
+use crate::Piece;
+use crate::place::{DATA, HEAD, KEY, NEXT, RECORD, SECOND, TOTAL, start_of};
 
-// Puts bytes into an area, from a place on.
-pub(crate) fn put_at(area: &mut [u8], place: usize, body: &[u8])
-    requires { place + length body.now ≤ length area.old }
-    ensures { area.new ≡ put area.old place body.now }
+// Puts a fragment's data at their place of the record.
+fn put_data<const K: usize>(work: &mut [u8], at: usize, width: u8, piece: &Piece<K>)
+    requires { at + head_size + width * piece.now.number + length piece.now.body.now ≤ length work.old }
+    ensures { work.new ≡ with_data (keyed_by K width) at (fragment piece.now) work.old }
 {
-    let end = place + body.len();
-    octets::copy(body, &mut area[place..end]);
+    let start = at + HEAD + start_of(width, piece.number);
+    let end = start + piece.body.len();
+    octets::copy(piece.body, &mut work[start..end]);
 }
 
 // Sets what stands before a record's data: status 1, key, total and next number.
@@ -26,23 +28,70 @@ fn mark(work: &mut [u8], at: usize, key: u8, total: u8, next: u8)
     work[at + NEXT] = next;
 }
 
-// Keeps a fragment that is not its message's last: status 1, key, total, next number, and its data at their place of the record.
-// Where the area has no room for the data, or the next number is no byte, the area stays.
-pub fn keep(work: &mut [u8], at: usize, width: u8, key: u8, total: u8, number: u8, body: &[u8])
+// Puts a fragment's data, and what stands before a record's data.
+fn put_piece<const K: usize>(work: &mut [u8], at: usize, width: u8, id: u8, piece: &Piece<K>)
+    requires next_is_a_byte { piece.now.number < 255 }
+    requires room { at + head_size + width * piece.now.number + length piece.now.body.now ≤ length work.old }
     ensures { work.new
-        ≡ cond (keep_fits (length work.old) at width number (length body.now))
-        (area_after (simple width) at (record { key = key ∷ []; total = total; number = number; bytes = body.now }) kept work.old)
+        ≡ put (with_data (keyed_by K width) at (fragment piece.now) work.old) at
+        (1 ∷ id ∷ piece.now.total ∷ (piece.now.number + 1) ∷ []) }
+{
+    put_data(work, at, width, piece);
+    mark(work, at, id, piece.total, piece.number + 1);
+}
+
+// Whether a fragment's data end inside an area of a size, and its next number is a byte.
+fn fits_area<const K: usize>(size: usize, at: usize, width: u8, piece: &Piece<K>) -> bool
+    ensures { result ≡ keep_fits size at width piece.now.number (length piece.now.body.now) }
+{
+    piece.number != 255
+        && HEAD + start_of(width, piece.number) + piece.body.len() <= size.saturating_sub(at)
+}
+
+// Whether the whole record is inside the area, a fragment's data end inside the record's, and its next number is a byte.
+fn fits_record<const K: usize>(size: usize, at: usize, width: u8, piece: &Piece<K>) -> bool
+    ensures { result ≡ record_fits size at width piece.now.number (length piece.now.body.now) }
+{
+    RECORD <= size.saturating_sub(at)
+        && piece.number != 255
+        && start_of(width, piece.number) + piece.body.len() <= DATA
+}
+
+// Keeps a fragment that is not its message's last: status 1, key, total, next number, and its data at their place of the record. The second byte of a key
+// stands behind the data. Where the fragment does not fit, the area stays.
+pub fn keep<const K: usize>(work: &mut [u8], at: usize, width: u8, piece: &Piece<K>)
+    ensures { work.new
+        ≡ cond (key_fits K (length work.old) at width piece.now.number (length piece.now.body.now))
+        (area_after (keyed_by K width) at (fragment piece.now) kept work.old)
         work.old }
 {
-    if number == 255 {
-        return;
+    match &piece.key[..] {
+        [id] => {
+            if fits_area(work.len(), at, width, piece) {
+                put_piece(work, at, width, *id, piece);
+            }
+        }
+        [id, second] => {
+            if fits_record(work.len(), at, width, piece) {
+                put_piece(work, at, width, *id, piece);
+                work[at + SECOND] = *second;
+            }
+        }
+        _ => {}
     }
-    let place = HEAD + start_of(width, number);
-    if room_from(work.len(), at) < place + body.len() {
-        return;
+}
+
+// Stores a message's last fragment and drops the record, whose data are the joined bytes then. Where it does not fit, the area stays.
+pub fn finish<const K: usize>(work: &mut [u8], at: usize, width: u8, piece: &Piece<K>)
+    ensures { work.new
+        ≡ cond (record_fits (length work.old) at width piece.now.number (length piece.now.body.now))
+        (area_after (collecting width) at (fragment piece.now) (done []) work.old)
+        work.old }
+{
+    if fits_record(work.len(), at, width, piece) {
+        put_data(work, at, width, piece);
+        clear(work, at);
     }
-    put_at(work, at + place, body);
-    mark(work, at, key, total, number + 1);
 }
 
 // Drops what the record at a place holds: its status becomes 0.
@@ -50,8 +99,7 @@ pub fn clear(work: &mut [u8], at: usize)
     ensures { work.new
         ≡ cond (ltb at (length work.old)) (dropped at work.old) work.old }
 {
-    if work.len() <= at {
-        return;
+    if at < work.len() {
+        work[at] = 0;
     }
-    work[at] = 0;
 }

@@ -6,10 +6,17 @@ mod joining;
 mod keeping;
 mod order;
 mod place;
-mod second;
 
 pub use joining::join_into;
-pub use keeping::{clear, keep};
-pub use order::{is_astray, is_last, is_shaped};
+pub use keeping::{clear, finish, keep};
+pub use order::{is_astray, is_filling, is_last, is_shaped};
 pub use place::{AREA, RECORD, RECORDS, data_place, place_of};
-pub use second::{finish, is_astray_of_two, is_filling, keep_of_two};
+
+// A fragment of a message: which message it is of, by a key of K bytes, its number there, and its data.
+#[derive(Clone, Copy)]
+pub struct Piece<'a, const K: usize> {
+    pub key: [u8; K],
+    pub total: u8,
+    pub number: u8,
+    pub body: &'a [u8],
+}

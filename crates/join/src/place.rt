@@ -1,5 +1,5 @@
 // Places: of a record in the work area, and of a fragment's data among the joined bytes.
-ghost use Rattle.std.specs.Prelude.{◌≡◌, ◌+◌, ◌-◌};
+ghost use Rattle.std.specs.Prelude.{◌≡◌, ◌+◌, drop};
 ghost use Rattle.join.specs.Code.{Start};
 ghost use Rattle.join.specs.Work.{base, head_size};
 
@@ -39,11 +39,11 @@ pub(crate) fn start_of(width: u8, number: u8) -> usize
     (width as usize) * (number as usize)
 }
 
-// How many bytes an area of a size has from a place on: none where the place is behind its end.
-pub(crate) fn room_from(size: usize, at: usize) -> usize
-    ensures { result ≡ size - at }
+// The bytes of an area from a record's place on: none where the place is behind its end.
+pub(crate) fn record_at(work: &[u8], at: usize) -> &[u8]
+    ensures { result.now ≡ drop at work.now }
 {
-    if size < at { 0 } else { size - at }
+    work.get(at..).unwrap_or(&[])
 }
 
 // The place of the data in an object's record.

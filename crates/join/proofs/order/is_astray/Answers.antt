@@ -1,41 +1,36 @@
-use mathlib.Core.Path.{sym}
+use mathlib.Core.Path.{◌≡◌, sym, ◌∙◌}
 use mathlib.Core.Bool.{or-true}
-use mathlib.Core.List.{[], ◌∷◌}
-use native.Mathlib.Omega.{arith}
+use borrow.Author.Tests.{eq-eqb, ne_eqb}
 use Rattle.laws.proofs.Tests.{tests}
-use Rattle.join.specs.Work.{load, astray}
-use Rattle.join.proofs.Parts.{lacking, agreed}
+use Rattle.join.specs.Work.{astray}
+use Rattle.join.specs.Code.{keyed_by, fragment}
+use Rattle.join.proofs.Parts.{few, lacking, astray_as}
 use Rattle.join.proofs.order.is_astray.Goals as goal
+use Rattle.join.proofs.order.is_astray.Goals.{then-status-ne1-via-then-status-ne1, then-status-ne1-via-else-status-ne1+then-next-piece, then-status-ne1-via-else-status-ne1+else-next-piece+then-total-piece, then-status-ne1-via-else-status-ne1+else-next-piece+else-total-piece+then-not-has_key}
 
-pub returns-then-number-eq0 : goal.returns-then-number-eq0
+pub returns-then-piece-eq0 : goal.returns-then-piece-eq0
 unfolding astray
-returns-then-number-eq0 c = search tests
+returns-then-piece-eq0 g c = search tests
 
-pub returns-then-room_from-lt-HEAD : goal.returns-then-room_from-lt-HEAD
-returns-then-room_from-lt-HEAD c =
+pub returns-in_default : goal.returns-in_default
+returns-in_default g c =
     let a = c.args in
-    sym (lacking _ a.at a.work.now _ c.if-number-eq0.false (omega arith))
+    sym (lacking (keyed_by g.row.K a.width) a.at a.work.now (fragment a.piece.now) c.if-piece-eq0.false (few a.at a.work.now _ c.record_at-bytes.ensures c.in_default.len_below))
 
-pub returns-then-work-at-ne1 : goal.returns-then-work-at-ne1
-unfolding load astray
-returns-then-work-at-ne1 c = search tests
-
-pub returns-then-work-at : goal.returns-then-work-at
-unfolding load astray
-returns-then-work-at c = search (tests, or-true)
-
-pub returns-then-work-at-2 : goal.returns-then-work-at-2
-unfolding load astray
-returns-then-work-at-2 c = search (tests, or-true)
-
-pub returns-then-work-at-3 : goal.returns-then-work-at-3
-unfolding load astray
-returns-then-work-at-3 c =
-    let h = c.if-work-at-3.true in
-    search (tests, or-true)
+pub returns-then-status-ne1 : goal.returns-then-status-ne1
+returns-then-status-ne1 g c =
+    let a = c.args in
+    rw (astray_as (keyed_by g.row.K a.width) a.at a.work.now _ c.record_at-bytes.ensures (fragment a.piece.now) c.if-piece-eq0.false)
+    (elim c.then-status-ne1.branch [
+      | then-status-ne1-via-then-status-ne1 w ↦ simp (ne_eqb _ _ w.if-status-ne1.true)
+      | then-status-ne1-via-else-status-ne1+then-next-piece w ↦ simp (ne_eqb _ _ w.if-next-piece.true, or-true)
+      | then-status-ne1-via-else-status-ne1+else-next-piece+then-total-piece w ↦ simp (ne_eqb _ _ w.if-total-piece.true, or-true)
+      | then-status-ne1-via-else-status-ne1+else-next-piece+else-total-piece+then-not-has_key w ↦ simp (sym w.has_key.ensures ∙ w.if-not-has_key.true, or-true)
+    ])
 
 pub returns : goal.returns
-unfolding load
-returns c =
-    rw c.start_of.ensures.times
-    (sym (agreed _ _ _ c.if-number-eq0.false c.if-work-at-ne1.false (λ i. c.if-work-at.false i ∷ []) c.if-work-at-2.false c.if-work-at-3.false))
+returns g c =
+    let a = c.args in
+    let key = sym c.has_key.ensures ∙ c.if-not-has_key.false in
+    rw (astray_as (keyed_by g.row.K a.width) a.at a.work.now _ c.record_at-bytes.ensures (fragment a.piece.now) c.if-piece-eq0.false, c.start_of.ensures.times)
+    (simp (eq-eqb _ _ c.if-status-ne1.false, eq-eqb _ _ c.if-next-piece.false, eq-eqb _ _ c.if-total-piece.false, key))
