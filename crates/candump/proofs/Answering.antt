@@ -3,6 +3,7 @@ use Prim.Native.Nat.{ℕ}
 use mathlib.Core.Path.{◌≡◌, refl, sym, ap, ◌∙◌}
 use mathlib.Core.Bool.{cond}
 use mathlib.Core.List.{List}
+use native.Mathlib.Omega.{arith}
 use lib.Dec.{eqb}
 use Rattle.std.specs.Prelude.{Result, Ok, Err}
 use Rattle.candump.specs.declared.errors.ImportError.{ImportError}
@@ -12,7 +13,7 @@ use Rattle.candump.specs.declared.errors.ExportError.TheVariants.{NotTen, Dlc, R
 use Rattle.candump.specs.declared.exporting.Line.{Line}
 use Rattle.candump.specs.Importing.{Imported}
 use Rattle.candump.specs.Exporting.{Exported, Put}
-use Rattle.candump.specs.Refusals.{import_answer, export_answer, put_answer}
+use Rattle.candump.specs.Refusals.{import_error_number, import_answer, export_answer, put_answer}
 
 abbrev import_back : Imported → Result (List ℕ) ImportError
 import_back i =
@@ -54,3 +55,10 @@ put_kept (Err Room) = refl
 
 pub put_answer_one : (r r' : Result ℕ ExportError) → put_answer r ≡ put_answer r' → r ≡ r'
 put_answer_one r r' e = sym (put_kept r) ∙ ap put_back e ∙ put_kept r'
+
+-- and no refusal has the number 0
+pub import_refusal_counts : (e : ImportError) → import_error_number e ≡ 0 → ⊥
+import_refusal_counts TooLong h = absurd (omega (arith, h))
+import_refusal_counts Front h = absurd (omega (arith, h))
+import_refusal_counts Identifier h = absurd (omega (arith, h))
+import_refusal_counts Data h = absurd (omega (arith, h))

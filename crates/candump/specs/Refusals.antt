@@ -19,13 +19,13 @@ export_error_number NotTen = 1
 export_error_number Dlc = 2
 export_error_number Room = 3
 
-unfoldable pub import_rule : ImportError → List ℕ
+abbrev pub import_rule : ImportError → List ℕ
 import_rule TooLong = codes "it is over 128 bytes long"
 import_rule Front = codes "it does not begin with (seconds.micros) and an interface of 1 to 15 bytes"
 import_rule Identifier = codes "behind the interface there are not three hex digits up to 7FF and a #"
 import_rule Data = codes "behind the # there are neither up to 8 whole bytes nor R with at most a digit up to 8"
 
-unfoldable pub export_rule : ExportError → List ℕ
+abbrev pub export_rule : ExportError → List ℕ
 export_rule NotTen = codes "it is not ten bytes long"
 export_rule Dlc = codes "its DLC is over 8"
 export_rule Room = codes "there is no room for the longest line"

@@ -26,7 +26,6 @@ impl ImportError {
 impl fmt::Display for ImportError {
     ghost output = { λ e. Some (import_rule e) };
 
-    #[tactic(auto, unfolding(crate::specs::Refusals::import_rule))]
     fn fmt<W: fmt::Write>(&self, f: &mut fmt::Formatter<W>) -> fmt::Result {
         match self {
             ImportError::TooLong => write!(f, "it is over 128 bytes long"),
@@ -68,7 +67,6 @@ impl ExportError {
 impl fmt::Display for ExportError {
     ghost output = { λ e. Some (export_rule e) };
 
-    #[tactic(auto, unfolding(crate::specs::Refusals::export_rule))]
     fn fmt<W: fmt::Write>(&self, f: &mut fmt::Formatter<W>) -> fmt::Result {
         match self {
             ExportError::NotTen => write!(f, "it is not ten bytes long"),
