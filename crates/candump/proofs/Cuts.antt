@@ -1,16 +1,22 @@
 -- What stands before and behind the first of some byte.
-use Prim.Native.Nat.{ℕ, suc, ◌+◌, ◌<◌, ◌≤◌}
+use Prim.Native.Nat.{ℕ, suc, ◌<◌, ◌≤◌}
 use mathlib.Core.Path.{◌≡◌, refl, sym, ap, ◌∙◌}
-use mathlib.Core.Bool.{true, false, ◌&&◌}
+use mathlib.Core.Bool.{Bool, true, false, ◌&&◌}
 use mathlib.Core.List.{List, [], ◌∷◌, ◌++◌}
 use native.Mathlib.Omega.{arith}
 use native.Mathlib.Numerals.{add-one}
-use lib.ListN.{length, get_or, take, drop, length-drop, drop_of_length-le}
-use lib.Seq.{split_at, take_at, drop-cons, drop-append-add, length-take-le}
-use lib.Dec.{eqb}
-use borrow.Author.Tests.{eqb-true, eq-eqb, ne_eqb}
+use lib.ListN.{length, get_or, take, length-drop}
+use lib.Seq.{split_at, take_at, drop-append-add, length-take-le}
+use lib.Dec.{eqb, ltb}
+use borrow.Author.Tests.{eqb-true, eq-eqb, ltb-false}
+use Rattle.std.specs.Prelude.{Option}
+use Rattle.std.specs.Option.{unwrap_or}
+use Rattle.std.specs.List.{position_or_len, position, list_all}
+use Rattle.std.proofs.lemmas.List.Recursion.{is_position_or_len}
 use Rattle.laws.proofs.Tests.{split, clash, halves}
-use Rattle.candump.specs.declared.Kind.{Kind}
+use Rattle.std.specs.Char.{is_ascii_digit, is_ascii_graphic}
+use Rattle.candump.specs.Text.{Kind}
+use Rattle.candump.specs.Text.Kind.{Decimal, Visible}
 use Rattle.candump.specs.Text.{is_a, all_are, index_of, up_to, behind}
 
 -- the place of a byte is in the list, or its length
@@ -58,33 +64,35 @@ module _ (k : Kind) (c : ℕ) (no : is_a k c ≡ false) where
   pub cut_behind : (a b : List ℕ) → all_are k a ≡ true → behind c (a ++ c ∷ b) ≡ b
   cut_behind a b all = rw (cut a b all) (drop-append-add a (c ∷ b) 1)
 
--- a search, byte by byte: it ends at this byte, goes on behind another one, and ends behind the text
-pub index_here : (c : ℕ) (l : List ℕ) (i : ℕ) → i < length l → get_or l i 0 ≡ c → index_of c (drop i l) ≡ 0
-unfolding index_of
-index_here c l i h e = rw (drop-cons l i 0 h) (simp (eq-eqb (get_or l i 0) c e))
+pub cut_length : (c : ℕ) (l : List ℕ) (p : ℕ) → p ≡ index_of c l → p ≡ length (take p l)
+cut_length c l p e = sym (length-take-le p l (omega (arith, index_most c l)))
 
-pub index_step : (c : ℕ) (l : List ℕ) (i : ℕ) → i < length l → (get_or l i 0 ≡ c → ⊥) → index_of c (drop i l) ≡ suc (index_of c (drop (i + 1) l))
+-- std's words for the same: the place of the first byte, and a test of each byte
+index_is_position : (c : ℕ) (l : List ℕ) → index_of c l ≡ position_or_len (λ b. eqb b c) l
 unfolding index_of
-index_step c l i h e = rw (add-one i, drop-cons l i 0 h) (simp (ne_eqb (get_or l i 0) c e))
+index_is_position c = is_position_or_len (index_of c) (λ b. eqb b c) refl (λ b l. split (eqb b c) (λ t. simp t) (λ f. simp f (omega arith)))
 
-pub index_end : (c : ℕ) (l : List ℕ) (i : ℕ) → length l ≤ i → index_of c (drop i l) ≡ 0
-unfolding index_of
-index_end c l i h = simp (drop_of_length-le l {i = i} h)
+pub found_place : (c : ℕ) (l : List ℕ) (o : Option ℕ) → o ≡ position (λ b. eqb b c) l → unwrap_or o (length l) ≡ index_of c l
+found_place c l o e =
+    let m = index_most c l in
+    rw e
+    (rw (← index_is_position c l)
+    (split (ltb (index_of c l) (length l))
+    (λ t. simp t)
+    (λ f. simp f (omega (arith, m, ltb-false (index_of c l) (length l) f)))))
 
--- kinds, byte by byte
-pub all_step : (k : Kind) (l : List ℕ) (i : ℕ) → i < length l → all_are k (drop i l) ≡ is_a k (get_or l i 0) && all_are k (drop (i + 1) l)
-all_step k l i h = simp (add-one, drop-cons l i 0 h)
+pub all_decimal : (l : List ℕ) → all_are Decimal l ≡ list_all (λ c. is_ascii_digit c) l
+unfolding is_a
+all_decimal [] = refl
+all_decimal (c ∷ l) = ap (λ (x : Bool). is_ascii_digit c && x) (all_decimal l)
+
+pub all_visible : (l : List ℕ) → all_are Visible l ≡ list_all (λ c. is_ascii_graphic c) l
+unfolding is_a
+all_visible [] = refl
+all_visible (c ∷ l) = ap (λ (x : Bool). is_ascii_graphic c && x) (all_visible l)
 
 pub all_both : (k : Kind) (a b : List ℕ) → all_are k a ≡ true → all_are k b ≡ true → all_are k (a ++ b) ≡ true
 all_both k [] b p q = q
 all_both k (x ∷ a) b p q =
     let h = halves (is_a k x) p in
     simp (h.0, all_both k a b h.1 q)
-
--- a cut at a place that was found
-pub cut_at : (c : ℕ) (l m : List ℕ) (p : ℕ) → m ≡ l → p ≡ index_of c m → (take p m ≡ up_to c l) × (drop (p + 1) m ≡ behind c l)
-cut_at c l m p e f = let g = f ∙ ap (index_of c) e in (rw (g, e), rw (g, e))
-
--- and the count of what stands before it
-pub cut_count : (c : ℕ) (m : List ℕ) (p : ℕ) → p ≡ index_of c m → p ≡ length (take p m)
-cut_count c m p f = sym (length-take-le p m (omega (arith, index_most c m)))

@@ -11,9 +11,9 @@ use borrow.Author.Tests.{eqb-true, ltb-true, ltb-false, leb-true, eq-eqb, ne_eqb
 use Rattle.laws.specs.Checks.{first_of, holds_at}
 use Rattle.laws.proofs.Tests.{split, clash, halves}
 use Rattle.laws.proofs.Checks.{none_holds}
-use Rattle.candump.specs.declared.Imported.{Imported}
-use Rattle.candump.specs.declared.Kind.{Kind}
-use Rattle.candump.specs.declared.Kind.TheVariants.{Decimal, Visible, Hex}
+use Rattle.candump.specs.Importing.{Imported}
+use Rattle.candump.specs.Text.{Kind}
+use Rattle.candump.specs.Text.Kind.{Decimal, Visible, Hex}
 use Rattle.candump.specs.Text.{opening, point, closing, space, mark, remote, within, hex_value, is_a, all_are, index_of, up_to, behind}
 use Rattle.candump.specs.Frame.{can, record_of}
 use Rattle.candump.specs.Importing.{most_line, most_interface, time_of, interface_of, frame_of, is_seconds, is_micros, is_time, is_interface, identifier_in, is_identified, is_remote, is_bytes, bytes_in, remote_dlc, record_in, import_checks, imported, frame_imported, import_of}

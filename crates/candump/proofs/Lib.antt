@@ -6,4 +6,5 @@ pub mod Texts
 pub mod Grammar
 pub mod Places
 pub mod Trips
+pub mod Answering
 pub mod Promises

@@ -1,21 +1,25 @@
 -- What the tests of a line's parts let through, and what is imported of them.
 use Prim.Native.Nat.{ℕ, suc, ◌/◌, ◌%◌, ◌<◌, ◌≤◌}
 use mathlib.Core.Path.{◌≡◌, refl, sym, ap, ◌∙◌}
-use mathlib.Core.Bool.{true, false, ◌&&◌, ◌||◌}
-use mathlib.Core.List.{List, []}
+use mathlib.Core.Bool.{true, false, true≢false, ◌&&◌, ◌||◌}
+use mathlib.Core.List.{List, [], ◌++◌}
 use native.Mathlib.Omega.{arith}
 use lib.ListN.{length, drop}
 use lib.Dec.{eqb, ltb, leb}
 use borrow.Author.Tests.{eqb-true, ltb-true, leb-true, lt-ltb, le-ltb, not-false}
+use Rattle.std.specs.Prelude.{Option, Some, None}
+use Rattle.std.specs.Option.{unwrap_or, is_some}
+use Rattle.laws.specs.Bytes.{padded}
 use Rattle.laws.specs.Checks.{first_of, holds_at}
 use Rattle.laws.proofs.Bytes.{length_padded}
 use Rattle.laws.proofs.Checks.{none_holds}
 use Rattle.laws.proofs.Tests.{split, halves}
 use Rattle.codec.specs.Fields.{can_bytes}
-use Rattle.candump.specs.declared.Kind.TheVariants.{Hex}
+use Rattle.candump.specs.Text.Kind.{Hex}
 use Rattle.candump.specs.Text.{mark, all_are, index_of, up_to, behind}
 use Rattle.candump.specs.Frame.{can, record_of}
 use Rattle.candump.specs.Importing.{most_line, time_of, interface_of, frame_of, is_time, is_interface, is_identified, is_remote, is_bytes, bytes_in, remote_dlc, record_in, not_imported, imported, identifier_in, import_checks, data_imported, frame_imported, import_of}
+use Rattle.candump.specs.Code.{dlc_said, bytes_said}
 use Rattle.candump.proofs.Stores.{bytes_count}
 
 pub record Whole (d : List ℕ) : Type 0 where
@@ -52,17 +56,34 @@ identified f e =
 -- ---- what is imported of what stands behind the "#", by what was found of it
 
 module _ (i : ℕ) (d : List ℕ) where
-  pub remote_imported : is_remote d ≡ true → imported 0 (record_of (can i 1 (remote_dlc d)) []) ≡ data_imported i d
-  unfolding data_imported record_in
-  remote_imported r = simp r
+  pub remote_imported : (n : ℕ) → dlc_said d ≡ Some n → (r : List ℕ) → r ≡ can_bytes (can i 1 n) ++ padded 8 [] → imported 0 r ≡ data_imported i d
+  unfolding dlc_said data_imported record_in record_of
+  remote_imported n e r f =
+      split (is_remote d)
+      (λ t. let k : remote_dlc d ≡ n = ap (λ (o : Option ℕ). unwrap_or o 0) (simp t at e) in simp t (rw (f, k) refl))
+      (λ b. absurd (true≢false (sym (ap is_some (simp b at e)))))
 
-  pub bytes_imported : is_remote d ≡ false → is_bytes d ≡ true → imported 0 (record_of (can i 0 (length d / 2)) (bytes_in d)) ≡ data_imported i d
-  unfolding data_imported record_in
-  bytes_imported r b = simp (r, b)
+  pub not_remote : dlc_said d ≡ None → is_remote d ≡ false
+  unfolding dlc_said
+  not_remote e = split (is_remote d) (λ t. absurd (true≢false (ap is_some (simp t at e)))) (λ f. f)
 
-  pub data_refused : is_remote d ≡ false → is_bytes d ≡ false → not_imported 4 ≡ data_imported i d
-  unfolding data_imported record_in
-  data_refused r b = simp (r, b)
+  pub bytes_some : (b : List ℕ) → bytes_said d ≡ Some b → (is_bytes d ≡ true) × (b ≡ padded 8 (bytes_in d))
+  unfolding bytes_said
+  bytes_some b e =
+      split (is_bytes d)
+      (λ t. (t, sym (ap (λ (o : Option (List ℕ)). unwrap_or o []) (simp t at e))))
+      (λ f. absurd (true≢false (sym (ap is_some (simp f at e)))))
+
+  pub bytes_imported : dlc_said d ≡ None → (b : List ℕ) → bytes_said d ≡ Some b → (r : List ℕ) → r ≡ can_bytes (can i 0 (length d / 2)) ++ b → imported 0 r ≡ data_imported i d
+  unfolding data_imported record_in record_of
+  bytes_imported n b e r f = let s = bytes_some b e in simp (not_remote n, s.0) (rw (f, s.1) refl)
+
+  pub data_refused : dlc_said d ≡ None → bytes_said d ≡ None → not_imported 4 ≡ data_imported i d
+  unfolding bytes_said data_imported record_in
+  data_refused n e =
+      split (is_bytes d)
+      (λ t. absurd (true≢false (ap is_some (simp t at e))))
+      (λ f. simp (not_remote n, f))
 
   pub data_imported_lem : is_remote d || is_bytes d ≡ true → data_imported i d ≡ imported 0 (record_in i d)
   unfolding data_imported

@@ -1,27 +1,25 @@
 -- What stands where: a time and an identifier as the code tests them, place by place.
-use Prim.Native.Nat.{ℕ, suc, ◌+◌, ◌-◌, ◌*◌, ◌<◌, ◌≤◌}
+use Prim.Native.Nat.{ℕ, suc, ◌+◌, ◌-◌, ◌<◌, ◌≤◌}
 use mathlib.Core.Path.{◌≡◌, refl, sym, ap, ◌∙◌, subst}
 use mathlib.Core.Bool.{Bool, true, false, true≢false, ◌&&◌}
-use mathlib.Core.List.{List, [], ◌∷◌, ◌++◌, append_assoc}
+use mathlib.Core.List.{List, [], ◌∷◌, ◌++◌, append_assoc, append-nil}
 use native.Mathlib.Omega.{arith}
 use native.Mathlib.Numerals.{add-one}
-use lib.ListN.{length, get_or, take, drop, length-append, length-drop, drop_of_length-le}
+use lib.ListN.{length, get_or, take, drop, replicate, length-append, length-drop}
 use lib.Seq.{take_at, take_all, take-suc, get_or_at, get_or-drop, drop-append-add, split_at, length-take-le}
-use lib.Dec.{ltb}
-use borrow.Author.Tests.{ltb-true, ltb-false, lt-ltb, le-ltb}
-use Rattle.laws.specs.Bytes.{padded}
-use Rattle.laws.proofs.Bytes.{places_back, length_padded}
-use Rattle.codec.specs.Names.{most_dlc}
+use lib.Dec.{leb}
+use borrow.Author.Tests.{le-leb, leb-true}
+use Rattle.std.specs.Prelude.{Option, Some, None}
+use Rattle.std.specs.Option.{unwrap_or, is_some}
+use Rattle.laws.proofs.Bytes.{places_back}
 use Rattle.laws.proofs.Tests.{split, halves}
-use Rattle.candump.specs.declared.Kind.TheVariants.{Decimal, Hex}
-use Rattle.candump.specs.declared.Pairs.{Pairs}
-use Rattle.candump.specs.Text.{opening, point, closing, mark, hex_value, is_a, all_are}
-use Rattle.candump.specs.Importing.{is_time, identifier_in, is_identified, is_bytes, bytes_in}
-use Rattle.candump.specs.Code.{identifier_or, Paired}
+use Rattle.candump.specs.Text.Kind.{Decimal, Hex}
+use Rattle.candump.specs.Text.{opening, point, closing, mark, all_are}
+use Rattle.candump.specs.Importing.{is_time, identifier_in, is_identified}
+use Rattle.candump.specs.Code.{identifier_said}
 use Rattle.candump.proofs.Cuts.{index_found}
+use Rattle.candump.proofs.Parts.{Identified, identified}
 use Rattle.candump.proofs.Grammar.{time, timed, time_passes, all_are_lem, frame_passes, three_of}
-use Rattle.candump.proofs.Parts.{identified, whole}
-use Rattle.candump.proofs.Stores.{bytes_count}
 
 -- a test that cannot hold
 pub refuted : (b : Bool) → (b ≡ true → ⊥) → false ≡ b
@@ -96,80 +94,50 @@ placed_time (c ∷ t) p =
 
 -- ---- an identifier
 
-pub identifier_bad : (h m l : ℕ) → (h < 16 → m < 16 → l < 16 → ⊥) → identifier_or h m l ≡ 2048
-unfolding identifier_or
-identifier_bad h m l bad =
-    split (ltb 15 h)
-    (λ t. simp t)
-    (λ f. split (ltb 15 m)
-    (λ t. simp (f, t))
-    (λ g. split (ltb 15 l)
-    (λ t. simp (f, g, t))
-    (λ k. absurd (bad (omega (arith, ltb-false 15 h f)) (omega (arith, ltb-false 15 m g)) (omega (arith, ltb-false 15 l k))))))
-
-pub identifier_good : (h m l : ℕ) → h < 16 → m < 16 → l < 16 → identifier_or h m l ≡ h * 256 + m * 16 + l
-unfolding identifier_or
-identifier_good h m l p q r = simp (le-ltb 15 h (omega arith), le-ltb 15 m (omega arith), le-ltb 15 l (omega arith))
-
-four_of : (f : List ℕ) → 3 < length f → f ≡ get_or f 0 0 ∷ get_or f 1 0 ∷ get_or f 2 0 ∷ get_or f 3 0 ∷ drop 4 f
-four_of f h = sym (places_back 4 0 f (omega arith))
-
--- an identified frame has its mark in the fourth place, and its three digits say the number
+-- a frame of which a part is missing is no identified one
 module _ (f : List ℕ) where
-  abbrev said : ℕ
-  said = identifier_or (hex_value (get_or f 0 0)) (hex_value (get_or f 1 0)) (hex_value (get_or f 2 0))
+  abbrev said : Option ℕ
+  said = identifier_said (get_or f 0 0) (get_or f 1 0) (get_or f 2 0)
 
-  pub identified_places : is_identified f ≡ true → (3 < length f) × (get_or f 3 0 ≡ mark) × (said ≤ 2047)
-  unfolding identifier_in is_a
-  identified_places e =
+  three_digits : Identified f → take 3 f ≡ get_or f 0 0 ∷ get_or f 1 0 ∷ get_or f 2 0 ∷ []
+  three_digits x = three_of f (omega (arith, x.found, x.three))
+
+  pub no_frame : length f < 4 → is_identified f ≡ false
+  no_frame h = sym (refuted (is_identified f) (λ e. let x = identified f e in omega (arith, x.found, x.three)))
+
+  pub no_mark : (get_or f 3 0 ≡ mark → ⊥) → is_identified f ≡ false
+  no_mark h = sym (refuted (is_identified f) (λ e. let x = identified f e in h (ap (λ (k : ℕ). get_or f k 0) (sym x.three) ∙ index_found mark f x.found)))
+
+  pub no_identifier : said ≡ None → is_identified f ≡ false
+  unfolding identifier_said identifier_in
+  no_identifier n =
+      sym (refuted (is_identified f)
+      (λ e.
       let x = identified f e in
-      let long : 3 < length f = omega (arith, x.found, x.three) in
-      let digits : all_are Hex (get_or f 0 0 ∷ get_or f 1 0 ∷ get_or f 2 0 ∷ []) ≡ true =
-      subst (λ (l : List ℕ). all_are Hex l ≡ true) (ap (λ (k : ℕ). take k f) x.three ∙ three_of f long) x.hex in
-      let a = halves (is_a Hex (get_or f 0 0)) digits in
-      let b = halves (is_a Hex (get_or f 1 0)) a.1 in
-      let c = halves (is_a Hex (get_or f 2 0)) b.1 in
-      let good = identifier_good (hex_value (get_or f 0 0)) (hex_value (get_or f 1 0)) (hex_value (get_or f 2 0)) (ltb-true _ _ a.0) (ltb-true _ _ b.0) (ltb-true _ _ c.0) in
-      (long, ap (λ (k : ℕ). get_or f k 0) (sym x.three) ∙ index_found mark f x.found, rw good x.most)
+      let hex : all_are Hex (get_or f 0 0 ∷ get_or f 1 0 ∷ get_or f 2 0 ∷ []) ≡ true =
+      subst (λ (l : List ℕ). all_are Hex l ≡ true) (ap (λ (k : ℕ). take k f) x.three ∙ three_digits x) x.hex in
+      let one : said ≡ Some (identifier_in f) = simp (hex, le-leb (identifier_in f) 2047 x.most) in
+      true≢false (ap is_some (sym one ∙ n))))
 
-  pub places_identified : 3 < length f → get_or f 3 0 ≡ mark → said ≤ 2047 → (is_identified f ≡ true) × (said ≡ identifier_in f)
-  unfolding identifier_in is_a
-  places_identified long e most =
+  -- and one that has them all is
+  pub all_there : 4 ≤ length f → get_or f 3 0 ≡ mark → (i : ℕ) → said ≡ Some i → (is_identified f ≡ true) × (i ≡ identifier_in f)
+  unfolding identifier_said identifier_in
+  all_there long e i s =
       let h = get_or f 0 0 in
       let m = get_or f 1 0 in
       let l = get_or f 2 0 in
       let d = drop 4 f in
-      let whole : f ≡ h ∷ m ∷ l ∷ mark ∷ d = four_of f long ∙ ap (λ (x : ℕ). h ∷ m ∷ l ∷ x ∷ d) e in
-      split (ltb (hex_value h) 16 && ltb (hex_value m) 16 && ltb (hex_value l) 16)
+      let whole : f ≡ h ∷ m ∷ l ∷ mark ∷ d = sym (places_back 4 0 f long) ∙ ap (λ (x : ℕ). h ∷ m ∷ l ∷ x ∷ d) e in
+      split (all_are Hex (h ∷ m ∷ l ∷ []) && leb (identifier_in f) 2047)
       (λ t.
-      let a = halves (ltb (hex_value h) 16 && ltb (hex_value m) 16) t in
-      let b = halves (ltb (hex_value h) 16) a.0 in
-      let good = identifier_good (hex_value h) (hex_value m) (hex_value l) (ltb-true _ _ b.0) (ltb-true _ _ b.1) (ltb-true _ _ a.1) in
-      let hex : all_are Hex (h ∷ m ∷ l ∷ []) ≡ true = simp (b.0, b.1, a.1) in
-      (ap is_identified whole ∙ frame_passes h m l d hex (rw good at most), good))
-      (λ f.
-      absurd (omega (
-        arith,
-        identifier_bad (hex_value h) (hex_value m) (hex_value l)
-            (λ p q r. true≢false (simp (lt-ltb (hex_value h) 16 p, lt-ltb (hex_value m) 16 q, lt-ltb (hex_value l) 16 r) at f)),
-      )))
+      let a = halves (all_are Hex (h ∷ m ∷ l ∷ [])) t in
+      (ap is_identified whole ∙ frame_passes h m l d a.0 (leb-true (identifier_in f) 2047 a.1), sym (ap (λ (o : Option ℕ). unwrap_or o 0) (simp t at s))))
+      (λ n. absurd (true≢false (sym (ap is_some (simp n at s)))))
 
--- ---- data bytes
+-- ---- a record of its header and its data bytes, each put over zeros
 
-pub eight_places : (l : List ℕ) → length l ≡ 8
-    → get_or l 0 0 ∷ get_or l 1 0 ∷ get_or l 2 0 ∷ get_or l 3 0 ∷ get_or l 4 0 ∷ get_or l 5 0 ∷ get_or l 6 0 ∷ get_or l 7 0 ∷ [] ≡ l
-eight_places l e =
-    ap (λ (t : List ℕ). get_or l 0 0 ∷ get_or l 1 0 ∷ get_or l 2 0 ∷ get_or l 3 0 ∷ get_or l 4 0 ∷ get_or l 5 0 ∷ get_or l 6 0 ∷ get_or l 7 0 ∷ t)
-    (sym (drop_of_length-le l {i = 8} (omega arith)))
-    ∙ places_back 8 0 l (omega arith)
-
-pub unpaired : (d b : List ℕ) → (is_bytes d ≡ true → ⊥) → Paired d (record { all = false; bytes = b })
-unpaired d b h = record { whole = refuted (is_bytes d) h; bytes = λ e. absurd (true≢false (sym e)) }
-
-pub paired : (d b : List ℕ) → is_bytes d ≡ true → b ≡ padded most_dlc (bytes_in d) → Paired d (record { all = true; bytes = b })
-paired d b e f = record { whole = sym e; bytes = λ _. f }
-
-pub paired_size : (d : List ℕ) (r : Pairs) → Paired d r → r.all ≡ true → length r.bytes ≡ most_dlc
-paired_size d r p e =
-    let w = whole d (sym p.whole ∙ e) in
-    ap length (p.bytes e) ∙ length_padded most_dlc (bytes_in d) (omega (arith, bytes_count d, w.most))
+pub joined : (p h b : List ℕ) (put : List ℕ) → p ≡ h → length p ≡ 2 → length b ≡ 8 → put ≡ b → take 2 (p ++ replicate 8 0) ++ (put ++ drop 8 (drop 2 (p ++ replicate 8 0))) ≡ h ++ b
+joined [] h b put e two eight f = absurd (omega arith)
+joined (x ∷ []) h b put e two eight f = absurd (omega arith)
+joined (x ∷ y ∷ []) h b put e two eight f = rw (f, ← e, append-nil b) refl
+joined (x ∷ y ∷ z ∷ p) h b put e two eight f = absurd (omega arith)

@@ -26,10 +26,14 @@ use Rattle.candump.proofs.Parts.{too_long, record_size}
 use Rattle.candump.proofs.Texts.{line_most}
 use Rattle.candump.proofs.Grammar.{line_imported, imported_line}
 use Rattle.candump.proofs.Trips.{record_line}
+use Rattle.candump.proofs.Answering.{import_answer_one, export_answer_one, put_answer_one}
 use Rattle.candump.proofs.text.place_of.Reads as place_of
 use Rattle.candump.proofs.importing.import_line.Reads as import-line
 use Rattle.candump.proofs.exporting.export_record.Reads as export-record
 use Rattle.candump.proofs.exporting.put_line.Reads as put-line
+use Rattle.candump.proofs.exporting.Line.text.Reads as line-text
+use Rattle.candump.proofs.errors.ImportError.number.Reads as import-error-number
+use Rattle.candump.proofs.errors.ExportError.number.Reads as export-error-number
 
 -- ---- which lines are imported, and to what
 
@@ -175,14 +179,23 @@ pub place_determined : (κs : _) (args : _) (r r' : _) (s s' : _) → place_of.P
 place_determined κs args r r' s s' p q = p ∙ sym q
 
 pub import_determined : (κs : _) (args : _) (r r' : _) (s s' : _) → import-line.Post κs args r s → import-line.Post κs args r' s' → r ≡ r'
-import_determined κs args r r' s s' p q = p ∙ sym q
+import_determined κs args r r' s s' p q = import_answer_one r r' (p ∙ sym q)
 
 pub export_determined : (κs : _) (args : _) (r r' : _) (s s' : _) → export-record.Post κs args r s → export-record.Post κs args r' s' → r ≡ r'
-export_determined κs args r r' s s' p q = p ∙ sym q
+export_determined κs args r r' s s' p q = export_answer_one r r' (p ∙ sym q)
 
 pub put_determined : (κs : _) (args : _) (r r' : _) (s s' : _) → put-line.Post κs args r s → put-line.Post κs args r' s'
     → (r ≡ r') × (s.1.0.now ≡ s'.1.0.now)
-put_determined κs args r r' s s' p q = (p.0 ∙ sym q.0, p.1 ∙ sym q.1)
+put_determined κs args r r' s s' p q = (put_answer_one r r' (p.0 ∙ sym q.0), p.1 ∙ sym q.1)
+
+pub text_determined : (κs : _) (args : _) (r r' : _) (s s' : _) → line-text.Post κs args r s → line-text.Post κs args r' s' → r.now ≡ r'.now
+text_determined κs args r r' s s' p q = p ∙ sym q
+
+pub import_number_determined : (κs : _) (args : _) (r r' : _) (s s' : _) → import-error-number.Post κs args r s → import-error-number.Post κs args r' s' → r ≡ r'
+import_number_determined κs args r r' s s' p q = p ∙ sym q
+
+pub export_number_determined : (κs : _) (args : _) (r r' : _) (s s' : _) → export-error-number.Post κs args r s → export-error-number.Post κs args r' s' → r ≡ r'
+export_number_determined κs args r r' s s' p q = p ∙ sym q
 
 -- ---- nothing is asked of a caller
 
@@ -197,3 +210,12 @@ export_asks_nothing κs args = tt
 
 pub put_asks_nothing : (κs : _) (args : _) → put-line.Asked κs args
 put_asks_nothing κs args = tt
+
+pub text_asks_nothing : (κs : _) (args : _) → line-text.Asked κs args
+text_asks_nothing κs args = tt
+
+pub import_number_asks_nothing : (κs : _) (args : _) → import-error-number.Asked κs args
+import_number_asks_nothing κs args = tt
+
+pub export_number_asks_nothing : (κs : _) (args : _) → export-error-number.Asked κs args
+export_number_asks_nothing κs args = tt

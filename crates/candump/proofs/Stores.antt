@@ -1,22 +1,25 @@
 -- Digits and bytes as the loops store them.
-use Prim.Native.Nat.{ℕ, zero, suc, ◌+◌, ◌*◌, ◌/◌, ◌%◌, ◌<◌, ◌≤◌}
+use Prim.Native.Nat.{ℕ, suc, ◌+◌, ◌-◌, ◌*◌, ◌/◌, ◌%◌, ◌<◌, ◌≤◌}
 use mathlib.Core.Path.{◌≡◌, refl, sym, ap, ◌∙◌}
-use mathlib.Core.Bool.{true}
-use mathlib.Core.List.{List, [], ◌∷◌, ◌++◌}
+use mathlib.Core.Bool.{false, true≢false}
+use mathlib.Core.List.{List, [], ◌∷◌, ◌++◌, append-nil}
 use native.Mathlib.Omega.{arith}
 use native.Mathlib.Numerals.{add-one}
 use lib.ListN.{length, get_or, set, take, drop, replicate, length-append, length-drop}
-use lib.Seq.{take-suc, take_all, drop-cons, set_at, append_snoc, length-take-le}
-use borrow.Author.Tests.{ltb-true, lt-ltb}
+use lib.Seq.{take-suc, drop-cons, drop-drop, set_at, append_snoc, length-take-le}
+use lib.Dec.{ltb}
+use borrow.Author.Tests.{ltb-true, eq-eqb, ne_eqb, lt-ltb, lt-leb, le-leb}
+use Rattle.std.specs.Prelude.{Option, Some, None}
+use Rattle.std.specs.Option.{unwrap_or, is_some}
+use Rattle.std.proofs.Math.Bool.{and-false}
+use Rattle.std.proofs.lemmas.List.{take-append-drop, take_more_set, drop-set-lt, length-set}
 use Rattle.laws.specs.Bytes.{padded}
-use Rattle.laws.proofs.Bytes.{drop_zeros}
-use Rattle.laws.proofs.Tests.{halves}
-use Rattle.candump.specs.declared.Kind.{Kind}
-use Rattle.candump.specs.declared.Kind.TheVariants.{Hex}
-use Rattle.candump.specs.Text.{hex_value, hex_digit, is_a, all_are}
+use Rattle.laws.proofs.Tests.{split}
+use Rattle.candump.specs.Text.{hex_value, digit_of, hex_digit, is_a, all_are}
+use Rattle.candump.specs.Text.Kind.{Hex}
 use Rattle.candump.specs.Frame.{hex_of}
-use Rattle.candump.specs.Importing.{bytes_in}
-use Rattle.candump.proofs.Cuts.{all_both}
+use Rattle.candump.specs.Importing.{is_bytes, bytes_in}
+use Rattle.candump.specs.Code.{bytes_said}
 
 -- the next element of a list that is stored from the front
 stored_next : (f p : List ℕ) (i v : ℕ) → length f ≡ i → i < length p → set (f ++ drop i p) i v ≡ f ++ v ∷ [] ++ drop (i + 1) p
@@ -28,16 +31,6 @@ stored_next f p i v e h =
 kept_length : (f p places : List ℕ) (i : ℕ) → length f ≡ i → i ≤ length p → places ≡ f ++ drop i p → length places ≡ length p
 kept_length f p places i n h e = ap length e ∙ length-append f (drop i p) ∙ rw (length-drop i p) (omega arith)
 
--- a byte among bytes of one kind
-all_at : (k : Kind) (l : List ℕ) (i : ℕ) → all_are k l ≡ true → i < length l → is_a k (get_or l i 0) ≡ true
-all_at k [] i e h = absurd (omega arith)
-all_at k (c ∷ l) zero e h = (halves (is_a k c) e).0
-all_at k (c ∷ l) (suc i) e h = all_at k l i (halves (is_a k c) e).1 (omega arith)
-
-pub value_at : (l : List ℕ) (i : ℕ) → all_are Hex l ≡ true → i < length l → hex_value (get_or l i 0) < 16
-unfolding is_a
-value_at l i e h = ltb-true (hex_value (get_or l i 0)) 16 (all_at Hex l i e h)
-
 -- ---- bytes of pairs of digits
 
 pub bytes_count : (d : List ℕ) → length (bytes_in d) ≡ length d / 2
@@ -46,46 +39,98 @@ bytes_count [] = refl
 bytes_count (h ∷ []) = refl
 bytes_count (h ∷ l ∷ d) = let n = bytes_count d in omega arith
 
-bytes_append : (a b : List ℕ) → length a % 2 ≡ 0 → bytes_in (a ++ b) ≡ bytes_in a ++ bytes_in b
-unfolding bytes_in
-bytes_append [] b e = refl
-bytes_append (h ∷ []) b e = absurd (omega arith)
-bytes_append (h ∷ l ∷ a) b e = ap (λ (t : List ℕ). (hex_value h * 16 + hex_value l) ∷ t) (bytes_append a b (omega arith))
+-- a digit that is one, and one that is none
+pub digit_some : (c v : ℕ) → digit_of c ≡ Some v → (hex_value c < 16) × (v ≡ hex_value c)
+unfolding digit_of
+digit_some c v e =
+    split (ltb (hex_value c) 16)
+    (λ t. (ltb-true (hex_value c) 16 t, sym (ap (λ (o : Option ℕ). unwrap_or o 0) (simp t at e))))
+    (λ f. absurd (true≢false (sym (ap is_some (simp f at e)))))
 
-two_more : (d : List ℕ) (i : ℕ) → 2 * i + 1 < length d
-    → take (2 * (i + 1)) d ≡ take (2 * i) d ++ get_or d (2 * i) 0 ∷ get_or d (2 * i + 1) 0 ∷ []
-two_more d i h =
-    let q : 2 * (i + 1) ≡ suc (suc (2 * i)) = omega arith in
-    let s : 2 * i + 1 ≡ suc (2 * i) = omega arith in
-    rw (q, s)
-    (take-suc d (suc (2 * i)) 0 (omega arith)
-    ∙ ap (λ (t : List ℕ). t ++ get_or d (suc (2 * i)) 0 ∷ []) (take-suc d (2 * i) 0 (omega arith))
-    ∙ append_snoc (take (2 * i) d) (get_or d (2 * i) 0) (get_or d (suc (2 * i)) 0 ∷ []))
+pub digit_none : (c : ℕ) → digit_of c ≡ None → is_a Hex c ≡ false
+unfolding digit_of is_a
+digit_none c e = split (ltb (hex_value c) 16) (λ t. absurd (true≢false (ap is_some (simp t at e)))) (λ f. f)
 
-pub bytes_stored : (d p places : List ℕ) (i v : ℕ) → 2 * i + 1 < length d → i < length p → places ≡ bytes_in (take (2 * i) d) ++ drop i p
-    → v ≡ hex_value (get_or d (2 * i) 0) * 16 + hex_value (get_or d (2 * i + 1) 0) → set places i v ≡ bytes_in (take (2 * (i + 1)) d) ++ drop (i + 1) p
-unfolding bytes_in
-bytes_stored d p places i v h k e f =
-    let front = take (2 * i) d in
-    let m : length front ≡ 2 * i = length-take-le (2 * i) d (omega arith) in
-    let n : length (bytes_in front) ≡ i = omega (arith, bytes_count front) in
-    let t : bytes_in (take (2 * (i + 1)) d) ≡ bytes_in front ++ v ∷ [] =
-    ap bytes_in (two_more d i h) ∙ bytes_append front (get_or d (2 * i) 0 ∷ get_or d (2 * i + 1) 0 ∷ []) (omega arith) ∙ rw f in
-    rw (e, t) (stored_next (bytes_in front) p i v n k)
+-- pairs of digits as they are read one by one: what is still to come, and how many bytes stand so far, with zeros behind them
+pub record Reading (d rest bytes : List ℕ) (n : ℕ) : Type 0 where
+  pub same : all_are Hex rest ≡ all_are Hex d
+  pub made : take n bytes ++ bytes_in rest ≡ bytes_in d
+  pub zeros : drop n bytes ≡ replicate (8 - n) 0
+  pub size : length bytes ≡ 8
+  pub left : 2 * n + length rest ≡ length d
 
--- as the loop reads them: each pair is of hex digits, and what is stored so far is padded with zeros
-pub pairs_hex : (d : List ℕ) (i : ℕ) → 2 * i + 1 < length d → all_are Hex (take (2 * i) d) ≡ true
-    → hex_value (get_or d (2 * i) 0) < 16 → hex_value (get_or d (2 * i + 1) 0) < 16 → all_are Hex (take (2 * (i + 1)) d) ≡ true
-unfolding is_a
-pairs_hex d i h a p q =
-    rw (two_more d i h)
-    (all_both Hex (take (2 * i) d) (get_or d (2 * i) 0 ∷ get_or d (2 * i + 1) 0 ∷ []) a (simp (lt-ltb _ 16 p, lt-ltb _ 16 q)))
+pub reading_begun : (d : List ℕ) → Reading d d (replicate 8 0) 0
+reading_begun d = record { same = refl; made = refl; zeros = refl; size = refl; left = omega arith }
 
-pub pairs_padded : (d : List ℕ) (i : ℕ) → 2 * i ≡ length d → bytes_in (take (2 * i) d) ++ drop i (replicate 8 0) ≡ padded 8 (bytes_in d)
-pairs_padded d i e =
-    let whole = take_all (2 * i) d (omega arith) in
-    let n : length (bytes_in d) ≡ i = bytes_count d ∙ omega arith in
-    rw (whole, drop_zeros i 8, n)
+pair_of : (x : List ℕ) → length x ≡ 2 → x ≡ get_or x 0 0 ∷ get_or x 1 0 ∷ []
+pair_of [] e = absurd (omega arith)
+pair_of (a ∷ []) e = absurd (omega arith)
+pair_of (a ∷ b ∷ []) e = refl
+pair_of (a ∷ b ∷ c ∷ x) e = absurd (omega arith)
+
+module _ (d rest bytes x rest' : List ℕ) (n : ℕ) (r : Reading d rest bytes n) (cut : rest ≡ x ++ rest') (two : length x ≡ 2) where
+  abbrev high : ℕ
+  high = get_or x 0 0
+
+  abbrev low : ℕ
+  low = get_or x 1 0
+
+  next_pair : rest ≡ high ∷ low ∷ rest'
+  next_pair = cut ∙ ap (λ (t : List ℕ). t ++ rest') (pair_of x two)
+
+  pub reading_room : length d ≤ 16 → n < 8
+  reading_room h = let k = ap length next_pair in omega (arith, r.left)
+
+  pub reading_more : length d ≤ 16 → (h l : ℕ) → digit_of high ≡ Some h → digit_of low ≡ Some l → Reading d rest' (set bytes n (h * 16 + l)) (n + 1)
+  unfolding is_a bytes_in
+  reading_more most h l e f =
+      let room = reading_room most in
+      let a = digit_some high h e in
+      let b = digit_some low l f in
+      let v = h * 16 + l in
+      let k = ap length next_pair in
+      let byte : v ≡ hex_value high * 16 + hex_value low = rw (a.1, b.1) refl in
+      let at : n < length bytes = omega (arith, r.size) in
+      let less : 8 - n ≡ suc (8 - (n + 1)) = omega arith in
+      let behind : drop (n + 1) bytes ≡ replicate (8 - (n + 1)) 0 = sym (drop-drop 1 n bytes) ∙ ap (drop 1) (r.zeros ∙ ap (λ (k : ℕ). replicate k 0) less) in
+      record {
+        same = sym (simp (lt-ltb _ 16 a.0, lt-ltb _ 16 b.0)) ∙ ap (all_are Hex) (sym next_pair) ∙ r.same;
+        made = ap (λ (t : List ℕ). t ++ bytes_in rest') (take_more_set bytes n v at) ∙ append_snoc (take n bytes) v (bytes_in rest') ∙ rw byte (ap (λ (t : List ℕ). take n bytes ++ bytes_in t) (sym next_pair)) ∙ r.made;
+        zeros = drop-set-lt (n + 1) bytes n v (omega arith) ∙ behind;
+        size = length-set bytes n v ∙ r.size;
+        left = omega (arith, r.left);
+      }
+
+  pub reading_high : digit_of high ≡ None → all_are Hex d ≡ false
+  reading_high e = sym r.same ∙ ap (all_are Hex) next_pair ∙ simp (digit_none high e)
+
+  pub reading_low : digit_of low ≡ None → all_are Hex d ≡ false
+  reading_low e = sym r.same ∙ ap (all_are Hex) next_pair ∙ simp (digit_none low e, and-false)
+
+-- at the end, and where they say nothing
+pub reading_end : (d rest bytes : List ℕ) (n : ℕ) → Reading d rest bytes n → length d ≤ 16 → length d % 2 ≡ 0 → length rest < 2 → Some bytes ≡ bytes_said d
+unfolding bytes_said is_bytes bytes_in
+reading_end d [] bytes n r most even h =
+    let whole : length d ≡ 2 * n = omega (arith, r.left) in
+    let count : length (bytes_in d) ≡ n = omega (arith, bytes_count d) in
+    let front : take n bytes ≡ bytes_in d = sym (append-nil (take n bytes)) ∙ r.made in
+    let all : bytes ≡ padded 8 (bytes_in d) =
+    sym (take-append-drop n bytes) ∙ rw (front, r.zeros, count) refl in
+    simp (eq-eqb (length d % 2) 0 even, le-leb (length d) 16 most, sym r.same) (ap Some all)
+reading_end d (c ∷ []) bytes n r most even h = absurd (omega (arith, r.left))
+reading_end d (c ∷ e ∷ rest) bytes n r most even h = absurd (omega arith)
+
+pub nothing_odd : (d : List ℕ) → (length d % 2 ≡ 0 → ⊥) → None ≡ bytes_said d
+unfolding bytes_said is_bytes
+nothing_odd d h = simp (ne_eqb (length d % 2) 0 h)
+
+pub nothing_long : (d : List ℕ) → 16 < length d → None ≡ bytes_said d
+unfolding bytes_said is_bytes
+nothing_long d h = simp (lt-leb (length d) 16 h, and-false)
+
+pub nothing_else : (d : List ℕ) → all_are Hex d ≡ false → None ≡ bytes_said d
+unfolding bytes_said is_bytes
+nothing_else d h = simp (h, and-false)
 
 -- ---- digits of bytes
 

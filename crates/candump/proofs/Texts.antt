@@ -1,21 +1,27 @@
 -- The text of a frame as it is put over the front of a buffer, and the line around it.
 use Prim.Native.Nat.{ℕ, suc, ◌+◌, ◌-◌, ◌<◌, ◌≤◌}
-use mathlib.Core.Path.{◌≡◌, refl, ap, ◌∙◌}
+use mathlib.Core.Path.{◌≡◌, refl, sym, ap, ◌∙◌}
 use mathlib.Core.List.{List, ◌∷◌, ◌++◌, append-nil}
 use native.Mathlib.Omega.{arith}
 use lib.ListN.{length, take, drop, replicate, length-take, length-drop, drop_of_length-le}
 use lib.Seq.{take_all, drop-drop}
 use lib.Dec.{eqb, ltb}
 use borrow.Author.Tests.{eq-eqb, ne_eqb, lt-ltb, le-ltb}
+use Rattle.std.specs.Prelude.{Err}
+use Rattle.laws.specs.Bytes.{padded}
+use Rattle.laws.specs.Checks.{first_of}
 use Rattle.laws.proofs.Bytes.{drop_zeros}
 use Rattle.laws.proofs.Tests.{split}
 use Rattle.codec.specs.declared.Can.{Can}
-use Rattle.candump.specs.declared.Put.{Put}
+use Rattle.candump.specs.Exporting.{Put}
 use Rattle.codec.specs.Names.{most_dlc}
 use Rattle.codec.specs.Fields.{can_of}
 use Rattle.candump.specs.Text.{mark}
 use Rattle.candump.specs.Frame.{identifier_digits, data_text, text}
-use Rattle.candump.specs.Exporting.{line_room, line_of, front, export_of, put_of, put_left}
+use Rattle.candump.specs.declared.errors.ExportError.{ExportError}
+use Rattle.candump.specs.declared.errors.ExportError.TheVariants.{NotTen, Dlc, Room}
+use Rattle.candump.specs.Refusals.{export_answer, put_answer}
+use Rattle.candump.specs.Exporting.{line_room, line_of, front, export_checks, export_of, put_checks, put_of, put_left}
 use Rattle.candump.proofs.Stores.{digits_count}
 
 pub data_most : (c : Can) (b : List ℕ) → c.dlc ≤ most_dlc → length (data_text c b) ≤ 16
@@ -107,12 +113,25 @@ module _ (r b : List ℕ) where
           over_front (text c d) b m x p g ∙ ap (λ (l : List ℕ). l ++ drop (length l) b) whole ∙ simp (is, ← e, few, room),
         )
 
--- and over zeros
-pub export_made : (r b : List ℕ) (p : Put) → p ≡ put_of r (replicate line_room 0) → b ≡ put_left r (replicate line_room 0)
-    → record { number = p.number; len = p.len; line = b } ≡ export_of r
-unfolding put_of put_left export_of
-export_made r b p e f =
-    rw (e, f)
-    (split (eqb (length r) 10)
-    (λ t. split (ltb 8 (can_of r).dlc) (λ u. simp (t, u)) (λ v. simp (t, v, drop_zeros (length (line_of r)) line_room)))
-    (λ n. simp n))
+-- and over zeros, where there is room
+module _ (r : List ℕ) where
+  same_checks : first_of (put_checks r (replicate line_room 0)) ≡ first_of (export_checks r)
+  same_checks =
+      split (eqb (length r) 10)
+      (λ t. split (ltb 8 (can_of r).dlc) (λ u. simp (t, u)) (λ v. simp (t, v)))
+      (λ n. simp n)
+
+  pub export_made : (n : ℕ) (b : List ℕ) → record { number = 0; len = n } ≡ put_of r (replicate line_room 0) → b ≡ put_left r (replicate line_room 0)
+      → record { number = 0; len = n; line = b } ≡ export_of r
+  unfolding put_of put_left export_of
+  export_made n b e f =
+      let z : first_of (export_checks r) ≡ 0 = sym same_checks ∙ sym (ap (λ (p : Put). p.number) e) in
+      let k : n ≡ length (line_of r) = ap (λ (p : Put). p.len) e ∙ simp (same_checks, z) in
+      let l : b ≡ padded line_room (line_of r) = f ∙ simp (same_checks, z, drop_zeros (length (line_of r)) line_room) in
+      rw (z, k, l) refl
+
+  pub export_refused : (e : ExportError) → put_answer (Err e) ≡ put_of r (replicate line_room 0) → export_answer (Err e) ≡ export_of r
+  unfolding put_of export_of
+  export_refused NotTen e = let z : first_of (export_checks r) ≡ 1 = sym same_checks ∙ sym (ap (λ (p : Put). p.number) e) in rw z refl
+  export_refused Dlc e = let z : first_of (export_checks r) ≡ 2 = sym same_checks ∙ sym (ap (λ (p : Put). p.number) e) in rw z refl
+  export_refused Room e = let z : first_of (export_checks r) ≡ 3 = sym same_checks ∙ sym (ap (λ (p : Put). p.number) e) in rw z refl

@@ -15,7 +15,7 @@ use Rattle.codec.specs.Fields.{header_of, can_of, can_bytes}
 use Rattle.codec.specs.Writing.{cleared_of}
 use Rattle.codec.proofs.Headers.{ranged}
 use Rattle.codec.proofs.Cans.{can_back}
-use Rattle.candump.specs.declared.Kind.TheVariants.{Decimal, Visible}
+use Rattle.candump.specs.Text.Kind.{Decimal, Visible}
 use Rattle.candump.specs.Text.{zero_digit, hex_value, hex_digit, is_a}
 use Rattle.candump.specs.Frame.{can, hex_of, identifier_digits, data_text, text, record_of, unused_cleared}
 use Rattle.candump.specs.Grammar.{Spells, Says, Line}

@@ -1,17 +1,22 @@
--- What only the code has: an identifier and data bytes as they are read, digit by digit.
-use Rattle.std.specs.Prelude.{ℕ, ◌+◌, ◌*◌, ◌≡◌, true, cond, List, ltb}
+-- What only the code has: what bytes say where they say something, as an identifier, a DLC under RTR, and data bytes.
+use Rattle.std.specs.Prelude.{ℕ, ◌+◌, ◌*◌, cond, ◌&&◌, List, [], ◌∷◌, leb, Option, Some, None}
 use Rattle.laws.specs.Bytes.{padded}
 use Rattle.codec.specs.Names.{most_dlc}
-use Rattle.candump.specs.declared.Pairs.{Pairs}
+use Rattle.candump.specs.Text.{hex_value, all_are}
+use Rattle.candump.specs.Text.Kind.{Hex}
 use Rattle.candump.specs.Frame.{most_identifier}
-use Rattle.candump.specs.Importing.{is_bytes, bytes_in}
+use Rattle.candump.specs.Importing.{is_remote, remote_dlc, is_bytes, bytes_in}
 
--- the number of three digits, by their values; one above the highest identifier where one of them is no digit
-unfoldable pub identifier_or : ℕ → ℕ → ℕ → ℕ
-identifier_or h m l =
-    cond (ltb 15 h) (most_identifier + 1) (cond (ltb 15 m) (most_identifier + 1) (cond (ltb 15 l) (most_identifier + 1) (h * 256 + m * 16 + l)))
+-- the number of three digits, up to the highest one
+unfoldable pub identifier_said : ℕ → ℕ → ℕ → Option ℕ
+identifier_said h m l =
+    cond (all_are Hex (h ∷ m ∷ l ∷ []) && leb (hex_value h * 256 + hex_value m * 16 + hex_value l) most_identifier)
+    (Some (hex_value h * 256 + hex_value m * 16 + hex_value l)) None
 
--- whether digits are whole bytes and, where they are, those bytes with zeros behind them
-pub record Paired (d : List ℕ) (r : Pairs) : Type 0 where
-  pub whole : r.all ≡ is_bytes d
-  pub bytes : r.all ≡ true → r.bytes ≡ padded most_dlc (bytes_in d)
+-- the DLC of R alone or with a digit
+unfoldable pub dlc_said : List ℕ → Option ℕ
+dlc_said d = cond (is_remote d) (Some (remote_dlc d)) None
+
+-- whole bytes, with zeros behind them
+unfoldable pub bytes_said : List ℕ → Option (List ℕ)
+bytes_said d = cond (is_bytes d) (Some (padded most_dlc (bytes_in d))) None

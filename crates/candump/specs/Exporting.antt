@@ -4,8 +4,6 @@ use Rattle.laws.specs.Bytes.{padded}
 use Rattle.laws.specs.Checks.{Check, first_of}
 use Rattle.codec.specs.Names.{frame_size, most_dlc}
 use Rattle.codec.specs.Fields.{can_of}
-use Rattle.candump.specs.declared.Exported.{Exported}
-use Rattle.candump.specs.declared.Put.{Put}
 use Rattle.candump.specs.Text.{opening, point, closing, space, zero_digit}
 use Rattle.candump.specs.Frame.{text}
 
@@ -28,6 +26,11 @@ abbrev pub export_checks : List ℕ → List Check
 export_checks r = (not (eqb (length r) frame_size), 1) ∷ (ltb most_dlc (can_of r).dlc, 2) ∷ []
 
 -- what is exported: 0, the line's length and the line, with zeros behind it; or a refusal and no line
+pub record Exported : Type 0 where
+  pub number : ℕ
+  pub len : ℕ
+  pub line : List ℕ
+
 abbrev pub not_exported : ℕ → Exported
 not_exported n = record { number = n; len = 0; line = replicate line_room 0 }
 
@@ -38,6 +41,10 @@ unfoldable pub export_of : List ℕ → Exported
 export_of r = exported (first_of (export_checks r)) (line_of r)
 
 -- and into a buffer: one without room for the longest line is refused with 3, last
+pub record Put : Type 0 where
+  pub number : ℕ
+  pub len : ℕ
+
 abbrev pub put_checks : List ℕ → List ℕ → List Check
 put_checks r b = export_checks r ++ (ltb (length b) line_room, 3) ∷ []
 

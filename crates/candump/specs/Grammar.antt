@@ -2,9 +2,8 @@
 -- a record exactly when it is one of these.
 use Rattle.std.specs.Prelude.{ℕ, ◌+◌, ◌*◌, ◌<◌, ◌≤◌, ◌≡◌, true, List, [], ◌∷◌, ◌++◌, length}
 use Rattle.codec.specs.Names.{most_dlc}
-use Rattle.candump.specs.declared.Kind.{Kind}
-use Rattle.candump.specs.declared.Kind.TheVariants.{Decimal, Visible, Hex}
-use Rattle.candump.specs.Text.{opening, point, closing, space, mark, remote, zero_digit, hex_value, is_a}
+use Rattle.candump.specs.Text.{opening, point, closing, space, mark, remote, zero_digit, hex_value, Kind, is_a}
+use Rattle.candump.specs.Text.Kind.{Decimal, Visible, Hex}
 use Rattle.candump.specs.Frame.{most_identifier, can, record_of}
 use Rattle.candump.specs.Importing.{most_line, most_interface, micro_digits}
 

@@ -3,9 +3,8 @@ use Rattle.std.specs.Prelude.{ℕ, ◌+◌, ◌-◌, ◌*◌, ◌/◌, ◌%◌, 
 use Rattle.laws.specs.Bytes.{byte_at}
 use Rattle.laws.specs.Checks.{Check, first_of}
 use Rattle.codec.specs.Names.{frame_size, most_dlc}
-use Rattle.candump.specs.declared.Kind.TheVariants.{Decimal, Visible, Hex}
-use Rattle.candump.specs.declared.Imported.{Imported}
 use Rattle.candump.specs.Text.{opening, point, closing, space, mark, remote, zero_digit, within, hex_value, all_are, index_of, up_to, behind}
+use Rattle.candump.specs.Text.Kind.{Decimal, Visible, Hex}
 use Rattle.candump.specs.Frame.{most_identifier, can, record_of}
 
 -- "line over 128 bytes"
@@ -89,6 +88,10 @@ import_checks l =
     (ltb most_line (length l), 1) ∷ (not (is_time (time_of l) && is_interface (interface_of l)), 2) ∷ frame_checks (frame_of l)
 
 -- what is imported: 0 and the ten bytes, or a refusal and zeros
+pub record Imported : Type 0 where
+  pub number : ℕ
+  pub frame : List ℕ
+
 abbrev pub not_imported : ℕ → Imported
 not_imported n = record { number = n; frame = replicate frame_size 0 }
 

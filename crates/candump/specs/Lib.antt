@@ -5,3 +5,4 @@ pub mod Importing
 pub mod Grammar
 pub mod Code
 pub mod Exporting
+pub mod Refusals

@@ -1,7 +1,5 @@
 -- Text: bytes by name, digits, and what stands before and behind a byte (02, 2026-02).
-use Rattle.std.specs.Prelude.{ℕ, suc, ◌+◌, ◌-◌, Bool, true, cond, ◌&&◌, List, [], ◌∷◌, take, drop, eqb, ltb, leb}
-use Rattle.candump.specs.declared.Kind.{Kind}
-use Rattle.candump.specs.declared.Kind.TheVariants.{Decimal, Visible, Hex}
+use Rattle.std.specs.Prelude.{ℕ, suc, ◌+◌, ◌-◌, Bool, true, cond, ◌&&◌, List, [], ◌∷◌, take, drop, eqb, ltb, leb, Option, Some, None}
 
 -- ( . ) and the space, # and R, and what ends a line, LF
 abbrev pub opening : ℕ
@@ -36,15 +34,20 @@ within lowest highest c = leb lowest c && leb c highest
 unfoldable pub hex_value : ℕ → ℕ
 hex_value c = cond (within 48 57 c) (c - 48) (cond (within 65 70 c) (c - 55) (cond (within 97 102 c) (c - 87) 16))
 
+-- and the same where it is a digit
+unfoldable pub digit_of : ℕ → Option ℕ
+digit_of c = cond (ltb (hex_value c) 16) (Some (hex_value c)) None
+
 -- "written in capitals": the digit of a value under 16
 unfoldable pub hex_digit : ℕ → ℕ
 hex_digit v = cond (ltb v 10) (48 + v) (55 + v)
 
--- the digits of all values
-abbrev pub capitals : List ℕ
-capitals = 48 ∷ 49 ∷ 50 ∷ 51 ∷ 52 ∷ 53 ∷ 54 ∷ 55 ∷ 56 ∷ 57 ∷ 65 ∷ 66 ∷ 67 ∷ 68 ∷ 69 ∷ 70 ∷ []
-
 -- the kinds of bytes: "decimal digits", "bytes of 21 to 7E hex", hex digits
+pub data Kind : Type 0 where
+  Decimal : Kind
+  Visible : Kind
+  Hex : Kind
+
 unfoldable pub is_a : Kind → ℕ → Bool
 is_a Decimal c = within 48 57 c
 is_a Visible c = within 33 126 c

@@ -2,14 +2,15 @@
 ghost use Rattle.std.specs.Prelude.{◌≡◌, ◌++◌, length};
 ghost use Rattle.codec.specs.Names.{most_dlc};
 ghost use Rattle.codec.specs.Fields.{can_bytes};
-ghost use Rattle.candump.specs.Text.{hex_value};
-ghost use Rattle.candump.specs.Importing.{is_time, is_interface, is_remote, remote_dlc, not_imported, imported, data_imported, frame_imported, import_of};
-ghost use Rattle.candump.specs.Code.{identifier_or, Paired};
+ghost use Rattle.candump.specs.Text.{all_are};
+ghost use Rattle.candump.specs.Text.Kind.{Decimal};
+ghost use Rattle.candump.specs.Importing.{is_time, is_interface, data_imported, frame_imported, import_of};
+ghost use Rattle.candump.specs.Refusals.{import_answer};
+ghost use Rattle.candump.specs.Code.{identifier_said, bytes_said, dlc_said};
 
-use crate::text::{all_are, behind, hex_value, is_within, place_of};
-use crate::{Imported, Kind, MOST_LINE, Pairs};
-use codec::Can;
-use octets::byte_at;
+use crate::text::{cut, hex_value};
+use crate::{ImportError, MOST_LINE};
+use codec::{Can, FRAME_SIZE};
 
 // The most bytes of an interface's name.
 const MOST_INTERFACE: usize = 15;
@@ -17,12 +18,17 @@ const MOST_INTERFACE: usize = 15;
 // The digits of the microseconds.
 const MICRO_DIGITS: usize = 6;
 
-// The digits of an identifier, and the highest one.
-const IDENTIFIER_DIGITS: usize = 3;
-
+// The highest identifier.
 const MOST_IDENTIFIER: u16 = 0x7FF;
 
-const NO_IDENTIFIER: u16 = MOST_IDENTIFIER + 1;
+// The most data bytes.
+const MOST_BYTES: usize = codec::MOST_DLC as usize;
+
+fn are_digits(text: &[u8]) -> bool
+    ensures { result ≡ all_are Decimal text.now }
+{
+    text.iter().all(|c| c.is_ascii_digit())
+}
 
 // A bracket, at least one digit, a point, six digits and a bracket.
 #[tactic(auto, using(crate::proofs::Places::time_placed, crate::proofs::Places::placed_time, crate::proofs::Places::refuted, crate::proofs::Places::same_test))]
@@ -33,194 +39,121 @@ fn is_time(text: &[u8]) -> bool
     if n < MICRO_DIGITS + 4 {
         return false;
     }
-    if text[0] != b'(' {
-        return false;
-    }
     let point = n - (MICRO_DIGITS + 2);
-    if text[point] != b'.' {
-        return false;
-    }
     let closing = n - 1;
-    if text[closing] != b')' {
-        return false;
-    }
-    if !all_are(Kind::Decimal, &text[1..point]) {
-        return false;
-    }
-    all_are(Kind::Decimal, &text[point + 1..closing])
+    text[0] == b'('
+        && text[point] == b'.'
+        && text[closing] == b')'
+        && are_digits(&text[1..point])
+        && are_digits(&text[point + 1..closing])
 }
 
-#[tactic(auto, unfolding(crate::specs::Importing::is_interface))]
+#[tactic(auto, using(crate::proofs::Cuts::all_visible), unfolding(crate::specs::Importing::is_interface))]
 fn is_interface(text: &[u8]) -> bool
     ensures { result ≡ is_interface text.now }
 {
-    if text.len() == 0 {
-        return false;
-    }
-    if MOST_INTERFACE < text.len() {
-        return false;
-    }
-    all_are(Kind::Visible, text)
+    !text.is_empty() && text.len() <= MOST_INTERFACE && text.iter().all(|c| c.is_ascii_graphic())
 }
 
-// The number that three digits say; one above the highest identifier where one of them is none.
-#[tactic(auto, unfolding(crate::specs::Code::identifier_or))]
-fn identifier_of(a: u8, b: u8, c: u8) -> u16
-    ensures { result ≡ identifier_or (hex_value a) (hex_value b) (hex_value c) }
+// The number that three hex digits say, up to the highest one.
+#[tactic(auto, unfolding(crate::specs::Code::identifier_said, crate::specs::Text::digit_of, crate::specs::Text::is_a))]
+fn identifier_of(a: u8, b: u8, c: u8) -> Option<u16>
+    ensures { result ≡ identifier_said a b c }
 {
-    let high = hex_value(a);
-    if 15 < high {
-        return NO_IDENTIFIER;
+    let high = hex_value(a)? as u16;
+    let middle = hex_value(b)? as u16;
+    let low = hex_value(c)? as u16;
+    let identifier = high * 256 + middle * 16 + low;
+    if MOST_IDENTIFIER < identifier {
+        return None;
     }
-    let middle = hex_value(b);
-    if 15 < middle {
-        return NO_IDENTIFIER;
-    }
-    let low = hex_value(c);
-    if 15 < low {
-        return NO_IDENTIFIER;
-    }
-    high as u16 * 256 + middle as u16 * 16 + low as u16
+    Some(identifier)
 }
 
-// R alone, or with a digit up to 8.
-#[tactic(auto, unfolding(crate::specs::Importing::is_remote))]
-fn is_remote(body: &[u8]) -> bool
-    ensures { result ≡ is_remote body.now }
+// The DLC of an R alone, which is 0, or with a digit up to 8.
+#[tactic(auto, unfolding(crate::specs::Code::dlc_said, crate::specs::Importing::is_remote))]
+fn remote_dlc(body: &[u8]) -> Option<u8>
+    ensures { result ≡ dlc_said body.now }
 {
-    if byte_at(body, 0) != b'R' {
-        return false;
+    match body {
+        [b'R'] => Some(0),
+        [b'R', digit @ b'0'..=b'8'] => Some(*digit - b'0'),
+        _ => None,
     }
-    if body.len() == 1 {
-        return true;
-    }
-    if body.len() != 2 {
-        return false;
-    }
-    is_within(b'0', b'8', body[1])
 }
 
 // The bytes that pairs of digits say, with zeros behind them, if there are up to eight and each digit is one.
-fn bytes_of(body: &[u8]) -> Pairs
-    ensures { Paired body.now result }
+fn bytes_of(body: &[u8]) -> Option<[u8; MOST_BYTES]>
+    ensures { result ≡ bytes_said body.now }
 {
-    let mut bytes = [0; 8];
-    let n = body.len();
-    if 2 * (codec::MOST_DLC as usize) < n {
-        return Pairs { all: false, bytes };
+    if body.len() % 2 != 0 || 2 * MOST_BYTES < body.len() {
+        return None;
     }
-    if n % 2 != 0 {
-        return Pairs { all: false, bytes };
+    let mut bytes = [0; MOST_BYTES];
+    for (i, pair) in body.chunks_exact(2).enumerate() {
+        bytes[i] = hex_value(pair[0])? * 16 + hex_value(pair[1])?;
     }
-    let mut i = 0;
-    while i < n / 2 {
-        let high = hex_value(body[2 * i]);
-        let low = hex_value(body[2 * i + 1]);
-        if 15 < high {
-            return Pairs { all: false, bytes };
-        }
-        if 15 < low {
-            return Pairs { all: false, bytes };
-        }
-        bytes[i] = high * 16 + low;
-        i += 1;
-    }
-    Pairs { all: true, bytes }
+    Some(bytes)
 }
 
 // The record with this CAN header and these data bytes.
-#[tactic(auto, using(crate::proofs::Places::eight_places), unfolding(codec::specs::Fields::can_bytes))]
-fn record_of(can: Can, bytes: [u8; 8]) -> Imported
+fn record_of(can: Can, bytes: [u8; MOST_BYTES]) -> [u8; FRAME_SIZE]
     requires { length bytes ≡ most_dlc }
-    ensures { result ≡ imported 0 (can_bytes can ++ bytes) }
+    ensures { result ≡ can_bytes can ++ bytes }
 {
+    let mut frame = [0; FRAME_SIZE];
     let header = codec::can_bytes(can);
-    Imported {
-        number: 0,
-        frame: [
-            header[0], header[1], bytes[0], bytes[1], bytes[2], bytes[3], bytes[4], bytes[5],
-            bytes[6], bytes[7],
-        ],
-    }
-}
-
-fn not_imported(number: u8) -> Imported
-    ensures { result ≡ not_imported number }
-{
-    Imported {
-        number,
-        frame: [0; codec::FRAME_SIZE],
-    }
-}
-
-// The DLC behind an R; 0 where there is none.
-fn remote_dlc(body: &[u8]) -> u8
-    ensures { result ≡ remote_dlc body.now }
-{
-    let c = byte_at(body, 1);
-    if c < b'0' {
-        return 0;
-    }
-    c - b'0'
+    frame[..2].copy_from_slice(&header);
+    frame[2..].copy_from_slice(&bytes);
+    frame
 }
 
 // What stands behind the # of a frame with this identifier.
-fn import_data(identifier: u16, body: &[u8]) -> Imported
-    ensures { result ≡ data_imported identifier body.now }
+fn import_data(identifier: u16, body: &[u8]) -> Result<[u8; FRAME_SIZE], ImportError>
+    ensures { import_answer result ≡ data_imported identifier body.now }
 {
-    if is_remote(body) {
+    if let Some(dlc) = remote_dlc(body) {
         let can = Can {
             identifier,
             rtr: 1,
-            dlc: remote_dlc(body),
+            dlc,
         };
-        return record_of(can, [0; 8]);
+        return Ok(record_of(can, [0; MOST_BYTES]));
     }
-    let read = bytes_of(body);
-    if read.all {
-        let can = Can {
-            identifier,
-            rtr: 0,
-            dlc: (body.len() / 2) as u8,
-        };
-        let bytes = read.bytes;
-        return record_of(can, bytes);
-    }
-    not_imported(4)
+    let bytes = bytes_of(body).ok_or(ImportError::Data)?;
+    let can = Can {
+        identifier,
+        rtr: 0,
+        dlc: (body.len() / 2) as u8,
+    };
+    Ok(record_of(can, bytes))
 }
 
 // The frame of a line, ID#data.
-fn import_frame(frame: &[u8]) -> Imported
-    ensures { result ≡ frame_imported frame.now }
+fn import_frame(frame: &[u8]) -> Result<[u8; FRAME_SIZE], ImportError>
+    ensures { import_answer result ≡ frame_imported frame.now }
 {
-    if frame.len() <= IDENTIFIER_DIGITS {
-        return not_imported(3);
-    }
-    if frame[IDENTIFIER_DIGITS] != b'#' {
-        return not_imported(3);
-    }
-    let identifier = identifier_of(frame[0], frame[1], frame[2]);
-    if MOST_IDENTIFIER < identifier {
-        return not_imported(3);
-    }
-    import_data(identifier, &frame[IDENTIFIER_DIGITS + 1..])
+    let [a, b, c, b'#', body @ ..] = frame else {
+        return Err(ImportError::Identifier);
+    };
+    let identifier = identifier_of(*a, *b, *c).ok_or(ImportError::Identifier)?;
+    import_data(identifier, body)
 }
 
-// The record of a line's frame. Refused are 1 (over 128 bytes), 2 (time or interface), 3 (identifier) and 4 (data), the first that applies.
-pub fn import_line(line: &[u8]) -> Imported
-    ensures { result ≡ import_of line.now }
+// The record of a line's frame. Refused are a line over 128 bytes, its time or interface, its identifier and its data, the first that applies.
+pub fn import_line(line: &[u8]) -> Result<[u8; FRAME_SIZE], ImportError>
+    ensures { import_answer result ≡ import_of line.now }
 {
     if MOST_LINE < line.len() {
-        return not_imported(1);
+        return Err(ImportError::TooLong);
     }
-    let time_end = place_of(b' ', line);
-    if !is_time(&line[..time_end]) {
-        return not_imported(2);
+    let (time, rest) = cut(b' ', line);
+    if !is_time(time) {
+        return Err(ImportError::Front);
     }
-    let rest = behind(time_end, line);
-    let interface_end = place_of(b' ', rest);
-    if !is_interface(&rest[..interface_end]) {
-        return not_imported(2);
+    let (interface, frame) = cut(b' ', rest);
+    if !is_interface(interface) {
+        return Err(ImportError::Front);
     }
-    import_frame(behind(interface_end, rest))
+    import_frame(frame)
 }

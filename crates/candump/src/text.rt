@@ -1,82 +1,33 @@
-// Bytes of text: their kinds, hex digits, and where a part of a text ends.
-ghost use Rattle.std.specs.Prelude.{◌≡◌, ◌+◌, drop};
-ghost use Rattle.candump.specs.Text.{index_of, within, hex_value, is_a, all_are};
-
-use crate::Kind;
+// Bytes of text: hex digits, and where a part of a text ends.
+ghost use Rattle.std.specs.Prelude.{◌≡◌};
+ghost use Rattle.candump.specs.Text.{index_of, up_to, behind, digit_of};
 
 // The place of the first such byte; the length where there is none. So a line is what stands before the place of the next line feed.
-#[tactic(auto, using(crate::proofs::Cuts::index_here, crate::proofs::Cuts::index_step, crate::proofs::Cuts::index_end))]
+
 pub fn place_of(byte: u8, text: &[u8]) -> usize
     ensures { result ≡ index_of byte text.now }
 {
-    let mut place = 0;
-    while place < text.len() {
-        if text[place] == byte {
-            return place;
-        }
-        place += 1;
-    }
-    place
+    text.iter().position(|c| *c == byte).unwrap_or(text.len())
 }
 
-// What stands behind a place; nothing where the text does not go so far.
-pub(crate) fn behind(place: usize, text: &[u8]) -> &[u8]
-    ensures { result.now ≡ drop (place + 1) text.now }
+// What stands before the first such byte, and what stands behind it: all and nothing where there is none.
+#[tactic(auto, using(crate::proofs::Cuts::index_most))]
+pub(crate) fn cut(byte: u8, text: &[u8]) -> (&[u8], &[u8])
+    ensures { (result.0.now ≡ up_to byte text.now) × (result.1.now ≡ behind byte text.now) }
 {
-    if place < text.len() {
-        return &text[place + 1..];
-    }
-    &text[text.len()..]
+    let place = place_of(byte, text);
+    (&text[..place], text.get(place + 1..).unwrap_or(&[]))
 }
 
-pub(crate) fn is_within(lowest: u8, highest: u8, c: u8) -> bool
-    ensures { result ≡ within lowest highest c }
+// The value of a hex digit of either case.
+#[tactic(auto, unfolding(crate::specs::Text::hex_value, crate::specs::Text::digit_of))]
+pub(crate) fn hex_value(c: u8) -> Option<u8>
+    ensures { result ≡ digit_of c }
 {
-    if c < lowest {
-        return false;
+    match c {
+        b'0'..=b'9' => Some(c - b'0'),
+        b'A'..=b'F' => Some(c - b'A' + 10),
+        b'a'..=b'f' => Some(c - b'a' + 10),
+        _ => None,
     }
-    c <= highest
-}
-
-// The value of a hex digit of either case; 16 for a byte that is none.
-#[tactic(auto, unfolding(crate::specs::Text::hex_value))]
-pub(crate) fn hex_value(c: u8) -> u8
-    ensures { result ≡ hex_value c }
-{
-    if is_within(b'0', b'9', c) {
-        return c - b'0';
-    }
-    if is_within(b'A', b'F', c) {
-        return c - (b'A' - 10);
-    }
-    if is_within(b'a', b'f', c) {
-        return c - (b'a' - 10);
-    }
-    16
-}
-
-#[tactic(auto, unfolding(crate::specs::Text::is_a))]
-fn is_a(kind: Kind, c: u8) -> bool
-    ensures { result ≡ is_a kind c }
-{
-    match kind {
-        Kind::Decimal => is_within(b'0', b'9', c),
-        Kind::Visible => is_within(0x21, 0x7E, c),
-        Kind::Hex => hex_value(c) < 16,
-    }
-}
-
-// Whether each byte is of that kind.
-#[tactic(auto, using(crate::proofs::Cuts::all_step))]
-pub(crate) fn all_are(kind: Kind, text: &[u8]) -> bool
-    ensures { result ≡ all_are kind text.now }
-{
-    let mut i = 0;
-    while i < text.len() {
-        if !is_a(kind, text[i]) {
-            return false;
-        }
-        i += 1;
-    }
-    true
 }

@@ -1,18 +1,16 @@
 -- What the entry points answer and leave, from what the calls below them give.
-use Prim.Native.Nat.{ℕ, ◌≤◌}
-use mathlib.Core.Path.{◌≡◌, ◌∙◌}
+use Prim.Native.Nat.{ℕ, ◌+◌, ◌*◌, ◌≤◌}
+use mathlib.Core.Path.{◌≡◌, refl, ◌∙◌}
 use mathlib.Core.List.{List, ◌++◌}
 use native.Mathlib.Omega.{arith}
 use lib.ListN.{length, take, drop}
 use borrow.Author.Tests.{eq-eqb, ne_eqb}
 use Rattle.octets.proofs.Copies.{copied_whole}
 use Rattle.codec.specs.Names.{frame_size}
-use Rattle.candump.specs.declared.Imported.{Imported}
-use Rattle.candump.specs.Importing.{import_of}
-use Rattle.candump.specs.declared.Put.{Put}
-use Rattle.candump.specs.Exporting.{put_of}
+use Rattle.candump.specs.Importing.{Imported, import_of}
+use Rattle.candump.specs.Exporting.{Put, put_of}
 use Rattle.candump.proofs.Promises.{import_size, put_small}
-use Rattle.sds_host.specs.Border.{border_import_number, border_import}
+use Rattle.sds_host.specs.Border.{border_import_number, border_import, border_export_answer}
 
 module _ (l r : List ℕ) where
   abbrev Left : ℕ → List ℕ → Type 0
@@ -39,3 +37,8 @@ module _ (l r : List ℕ) where
 -- a number and a length are small
 pub put_fits : (r l : List ℕ) (p : Put) → p ≡ put_of r l → (p.number ≤ 3) × (p.len ≤ 36)
 put_fits r l p e = rw e (put_small r l)
+
+-- and make the answer
+pub put_shown : (r l : List ℕ) (p : Put) → p ≡ put_of r l → p.number + 256 * p.len ≡ border_export_answer r l
+unfolding border_export_answer
+put_shown r l p e = rw e refl

@@ -17,20 +17,23 @@ pub fn sds_import_line(line: &[u8], frame: &mut [u8]) -> u32
     if frame.len() != codec::FRAME_SIZE {
         return 5;
     }
-    let got = candump::import_line(line);
-    if got.number != 0 {
-        return got.number as u32;
+    match candump::import_line(line) {
+        Ok(record) => {
+            octets::copy(&record, frame);
+            0
+        }
+        Err(refusal) => refusal.number() as u32,
     }
-    octets::copy(&got.frame, frame);
-    0
 }
 
 // The line of a record, at the front of its buffer: number + 256 * length. Refused are 1, 2 and 3, as put_line has them, and the buffer stays.
 pub fn sds_export_record(frame: &[u8], line: &mut [u8]) -> u32
     ensures { (result ≡ border_export_answer frame.now line.old) × (line.new ≡ put_left frame.now line.old) }
 {
-    let put = candump::put_line(frame, line);
-    (put.number as u32) + 256 * (put.len as u32)
+    match candump::put_line(frame, line) {
+        Ok(len) => 256 * len as u32,
+        Err(refusal) => refusal.number() as u32,
+    }
 }
 
 // Puts the bytes of a value: kind, guest, object, ID, length, 0, and the place, its low byte first.

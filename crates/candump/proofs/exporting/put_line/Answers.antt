@@ -1,4 +1,4 @@
-use Rattle.candump.proofs.Texts.{not_ten, too_much, no_room, text_most, line_put}
+use Rattle.candump.proofs.Texts.{not_ten, too_much, no_room, line_put}
 use native.Mathlib.Omega.{arith}
 use Prim.Native.Nat.{ℕ}
 use mathlib.Core.Path.{refl, ap, ◌∙◌}
@@ -20,11 +20,8 @@ returns-then-line-lt-LINE_ROOM c =
     let x = c.args in
     no_room x.frame.now x.line.now c.if-frame-ne-FRAME_SIZE.false c.can_of-can.result c.can_of-can.ensures c.if-can-gt-MOST_DLC.false c.if-line-lt-LINE_ROOM.true
 
-pub overflow_add-result : goal.overflow_add-result
-overflow_add-result c = omega (arith, text_most c.can_of-can.result _ c.if-can-gt-MOST_DLC.false c.put_text-n.result c.put_text-n.ensures.count)
-
 pub returns : goal.returns
 returns c =
     let x = c.args in
     line_put x.frame.now x.line.now c.if-frame-ne-FRAME_SIZE.false c.can_of-can.result c.can_of-can.ensures c.if-can-gt-MOST_DLC.false c.if-line-lt-LINE_ROOM.false _ refl _
-    (c.copy.ensures ∙ ap (λ (t : List ℕ). t ++ drop 16 x.line.now) (take_all (length x.line.now) _ (omega (arith, c.if-line-lt-LINE_ROOM.false)))) _ _ c.put_text-n.ensures.count c.put_text-n.ensures.front
+    (c.copy.ensures ∙ ap (λ (t : List ℕ). t ++ drop 16 x.line.now) (take_all (length x.line.now) _ (omega (arith, c.if-line-lt-LINE_ROOM.false)))) _ _ c.put_text.ensures.count c.put_text.ensures.front

@@ -1,58 +1,56 @@
-use lib.Seq.{take_all}
-use borrow.Author.Tests.{eq-eqb, le-leb}
-use Rattle.candump.proofs.Places.{unpaired, paired}
-use Rattle.candump.proofs.Parts.{whole}
-use Rattle.candump.proofs.Stores.{bytes_stored, pairs_hex, pairs_padded, value_at}
-use Rattle.candump.specs.declared.Kind.TheVariants.{Hex}
-use Rattle.candump.specs.Text.{hex_value, all_are}
-use Rattle.candump.specs.Importing.{is_bytes, bytes_in}
-use lib.ListN.{length, get_or, replicate}
-use mathlib.Core.Bool.{true}
-use Prim.Native.Nat.{◌+◌, ◌*◌, ◌%◌}
+use mathlib.Core.Path.{sym, ◌∙◌}
 use native.Mathlib.Omega.{arith}
-use mathlib.Core.Path.{◌≡◌, refl, sym, ap, ◌∙◌}
+use Rattle.candump.proofs.Stores.{digit_some, reading_begun, reading_more, reading_high, reading_low, reading_end, nothing_odd, nothing_long, nothing_else}
+use Rattle.candump.proofs.importing.bytes_of.Goals.{then-body-ne0-via-then-body-ne0, then-body-ne0-via-else-body-ne0+then-body}
 use Rattle.candump.proofs.importing.bytes_of.Goals as goal
 
-pub returns-then-n : goal.returns-then-n
-returns-then-n c = let d = c.args.body.now in unpaired d _ (λ e. omega (arith, (whole d e).most))
-
-pub returns-then-n-ne0 : goal.returns-then-n-ne0
-returns-then-n-ne0 c = let d = c.args.body.now in unpaired d _ (λ e. c.if-n-ne0.true (whole d e).even)
+pub returns-then-body-ne0 : goal.returns-then-body-ne0
+returns-then-body-ne0 c =
+    elim c.then-body-ne0.branch [
+      | then-body-ne0-via-then-body-ne0 w ↦ nothing_odd c.args.body.now w.if-body-ne0.true
+      | then-body-ne0-via-else-body-ne0+then-body w ↦ nothing_long c.args.body.now w.if-body.true
+    ]
 
 pub loop-i-init : goal.loop-i-init
-unfolding bytes_in
-loop-i-init c = (refl, omega arith, omega arith, omega arith, refl, refl)
+loop-i-init c =
+    rw (c.into_iter-i-iterator.ensures.into_iter_gives, c.enumerate-i-items.ensures.source, c.enumerate-i-items.ensures.count, c.chunks_exact.ensures.rest)
+    record { pairs = c.chunks_exact.ensures.size; reading = reading_begun c.args.body.now }
 
-pub returns-then-high-gt15 : goal.returns-then-high-gt15
-returns-then-high-gt15 c =
-    let d = c.args.body.now in
-    unpaired d _ (λ e. omega (arith, value_at d (2 * c.loop-i.i) (whole d e).hex (omega arith), c.hex_value-high.ensures))
+pub returns-in_err-hex_value : goal.returns-in_err-hex_value
+returns-in_err-hex_value c =
+    let turn = c.in-Some.ensures.steps.0.1 in
+    let k = c.loop-i.invariant in
+    c.from_residual.ensures
+    ∙ nothing_else _ (reading_high _ _ _ _ _ _ k.reading turn.0 (turn.1 ∙ k.pairs) (sym c.hex_value.ensures ∙ c.in_err-hex_value.was))
 
-pub returns-then-low-gt15 : goal.returns-then-low-gt15
-returns-then-low-gt15 c =
-    let d = c.args.body.now in
-    unpaired d _ (λ e. omega (arith, value_at d (2 * c.loop-i.i + 1) (whole d e).hex (omega arith), c.hex_value-low.ensures))
+pub overflow_mul-bytes : goal.overflow_mul-bytes
+overflow_mul-bytes c = omega (arith, digit_some _ _ (sym c.hex_value.ensures ∙ c.in_ok-hex_value.was))
+
+pub returns-in_err-bytes : goal.returns-in_err-bytes
+returns-in_err-bytes c =
+    let turn = c.in-Some.ensures.steps.0.1 in
+    let k = c.loop-i.invariant in
+    c.from_residual-in_err-bytes.ensures
+    ∙ nothing_else _ (reading_low _ _ _ _ _ _ k.reading turn.0 (turn.1 ∙ k.pairs) (sym c.hex_value-in-loop-i.ensures ∙ c.in_err-bytes.was))
+
+pub overflow_add-bytes : goal.overflow_add-bytes
+overflow_add-bytes c =
+    omega (arith, digit_some _ _ (sym c.hex_value.ensures ∙ c.in_ok-hex_value.was), digit_some _ _ (sym c.hex_value-in-loop-i.ensures ∙ c.in_ok-bytes.was))
 
 pub loop-i-preserved : goal.loop-i-preserved
 loop-i-preserved c =
-    let d = c.args.body.now in
-    let i = c.loop-i.i in
-    let v : c.hex_value-high.result * 16 + c.hex_value-low.result ≡ hex_value (get_or d (2 * i) 0) * 16 + hex_value (get_or d (2 * i + 1) 0) =
-    omega (arith, c.hex_value-high.ensures, c.hex_value-low.ensures) in (
-      refl,
-      omega arith,
-      omega arith,
-      omega arith,
-      bytes_stored d (replicate 8 0) c.loop-i.bytes i _ (omega arith) (omega arith) c.loop-i.invariant.4 v,
-      pairs_hex d i (omega arith) c.loop-i.invariant.5 (omega (arith, c.hex_value-high.ensures)) (omega (arith, c.hex_value-low.ensures)),
-    )
+    let step = c.in-Some.ensures.steps in
+    let turn = step.0.1 in
+    let k = c.loop-i.invariant in
+    let two = turn.1 ∙ k.pairs in
+    rw (step.1, step.2)
+    record {
+      pairs = step.0.0 ∙ k.pairs;
+      reading = reading_more _ _ _ _ _ _ k.reading turn.0 two c.if-body.false _ _ (sym c.hex_value.ensures ∙ c.in_ok-hex_value.was) (sym c.hex_value-in-loop-i.ensures ∙ c.in_ok-bytes.was);
+    }
 
 pub returns : goal.returns
-unfolding is_bytes
 returns c =
-    let d = c.args.body.now in
-    let n = length d in
-    let i = c.loop-i.i in
-    let all : 2 * i ≡ n = omega arith in
-    let hex : all_are Hex d ≡ true = ap (all_are Hex) (sym (take_all (2 * i) d (omega arith))) ∙ c.loop-i.invariant.5 in
-    paired d _ (simp (eq-eqb (n % 2) 0 (omega arith), le-leb n 16 (omega arith), hex)) (c.loop-i.invariant.4 ∙ pairs_padded d i all)
+    let k = c.loop-i.invariant in
+    let last = c.in-None.ensures.steps.0.1.0 in
+    reading_end _ _ _ _ k.reading c.if-body.false c.if-body-ne0.false (omega (arith, last, k.pairs))

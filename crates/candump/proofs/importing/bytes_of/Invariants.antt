@@ -1,15 +1,11 @@
-use Rattle.candump.specs.declared.Kind.TheVariants.{Hex}
-use Rattle.candump.specs.Text.{all_are}
-use Rattle.candump.specs.Importing.{bytes_in}
-use lib.ListN.{length, take, drop, replicate}
-use mathlib.Core.List.{◌++◌}
-use mathlib.Core.Bool.{true}
-use Prim.Native.Nat.{◌-◌, ◌*◌, ◌/◌, ◌%◌, ◌≤◌}
+use Rattle.std.specs.Iterator.Adapters.{enumerate_source, enumerate_count}
+use Rattle.std.specs.Slice.Iter.{chunks_exact_rest, chunks_exact_size}
 use mathlib.Core.Path.{◌≡◌}
+use Rattle.candump.proofs.Stores.{Reading}
 use Rattle.candump.proofs.importing.bytes_of.Given as goal
 
 abbrev pub invariant-loop-i : goal.invariant-loop-i
-invariant-loop-i l = (l.n ≡ length l.body) × (l.n ≤ 16) × (l.n % 2 ≡ 0) × (l.i ≤ l.n / 2) × (l.bytes ≡ bytes_in (take (2 * l.i) l.body) ++ drop l.i (replicate 8 0)) × (all_are Hex (take (2 * l.i) l.body) ≡ true)
-
-abbrev pub decreases-loop-i : goal.decreases-loop-i
-decreases-loop-i l = l.n / 2 - l.i
+invariant-loop-i l = record {
+  pairs : chunks_exact_size (enumerate_source l.i-iterator) ≡ 2;
+  reading : Reading l.fn.body (chunks_exact_rest (enumerate_source l.i-iterator)) l.bytes (enumerate_count l.i-iterator);
+}

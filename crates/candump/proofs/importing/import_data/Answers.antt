@@ -1,33 +1,28 @@
-use Rattle.candump.proofs.Places.{paired_size}
-use Rattle.candump.specs.Frame.{record_of}
-use Rattle.candump.proofs.Parts.{remote_imported, bytes_imported, data_refused, whole}
+use Rattle.std.proofs.Common.{rules, ◌≡◌, ◌∙◌, Some, None, Err}
+use Rattle.candump.specs.declared.errors.ImportError.TheVariants.{Data}
 use native.Mathlib.Omega.{arith}
-use mathlib.Core.Path.{sym, ◌∙◌}
+use mathlib.Core.Path.{sym}
+use Rattle.candump.proofs.Parts.{remote_imported, bytes_some, bytes_imported, data_refused, whole}
 use Rattle.candump.proofs.importing.import_data.Goals as goal
 
-pub returns-then-is_remote : goal.returns-then-is_remote
-unfolding record_of
-returns-then-is_remote c =
+pub returns-in-Some : goal.returns-in-Some
+returns-in-Some c = let x = c.args in remote_imported x.identifier x.body.now c.in-Some.dlc (sym c.remote_dlc.ensures ∙ c.in-Some.is) _ c.record_of.ensures
+
+pub returns-in_err-bytes : goal.returns-in_err-bytes
+returns-in_err-bytes c =
     let x = c.args in
-    rw c.remote_dlc.ensures at c.record_of.ensures ∙ remote_imported x.identifier x.body.now (sym c.is_remote.ensures ∙ c.if-is_remote.true)
+    let e : c.from_residual.result ≡ Err Data = search rules in
+    let n : c.bytes_of.result ≡ None = search rules in
+    rw e (data_refused x.identifier x.body.now (sym c.remote_dlc.ensures ∙ c.in_default.is) (sym c.bytes_of.ensures ∙ n))
 
 pub overflow_cast-can : goal.overflow_cast-can
 overflow_cast-can c =
-    let w = whole _ (sym c.bytes_of-read.ensures.whole ∙ c.if-read.true) in
-    omega (arith, w.most)
-
-pub record_of-requires-then-read : goal.record_of-requires-then-read
-record_of-requires-then-read c = paired_size _ _ c.bytes_of-read.ensures c.if-read.true
-
-pub returns-then-read : goal.returns-then-read
-unfolding record_of
-returns-then-read c =
     let x = c.args in
-    rw (c.bytes_of-read.ensures.bytes c.if-read.true) at c.record_of-then-read.ensures
-    ∙ bytes_imported x.identifier x.body.now (sym c.is_remote.ensures ∙ c.if-is_remote.false) (sym c.bytes_of-read.ensures.whole ∙ c.if-read.true)
+    let s : c.bytes_of.result ≡ Some c.in_ok-bytes.bytes = search rules in
+    omega (arith, (whole x.body.now (bytes_some x.identifier x.body.now _ (sym c.bytes_of.ensures ∙ s)).0).most)
 
 pub returns : goal.returns
 returns c =
     let x = c.args in
-    c.not_imported.ensures
-    ∙ data_refused x.identifier x.body.now (sym c.is_remote.ensures ∙ c.if-is_remote.false) (sym c.bytes_of-read.ensures.whole ∙ c.if-read.false)
+    let s : c.bytes_of.result ≡ Some c.in_ok-bytes.bytes = search rules in
+    bytes_imported x.identifier x.body.now (sym c.remote_dlc.ensures ∙ c.in_default.is) _ (sym c.bytes_of.ensures ∙ s) _ c.record_of-2.ensures

@@ -1,0 +1,5 @@
+use Rattle.candump.proofs.Digits.{capital_at}
+use Rattle.candump.proofs.exporting.digit.Goals as goal
+
+pub returns : goal.returns
+returns c = capital_at c.args.value c.requires
