@@ -65,7 +65,7 @@ pub fn sds_descriptor_size(descriptor: u32) -> u32
     if 65535 < descriptor {
         return 0;
     }
-    table::descriptor_size(descriptor as u16) as u32
+    table::descriptor_size(descriptor as u16).unwrap_or(0) as u32
 }
 
 // What a step says of a table and a store of this length, whatever the frame: 1 (their lengths), 2 (not well formed), or nothing, 0.

@@ -1,4 +1,5 @@
 pub mod Descriptors
+pub mod Served
 pub mod Tables
 pub mod Records
 pub mod Determined

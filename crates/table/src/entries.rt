@@ -1,10 +1,10 @@
 // The records of a table: what one holds, whether it fits by itself, and whether all of them are well formed.
-ghost use Rattle.std.specs.Prelude.{◌≡◌};
+ghost use Rattle.std.specs.Prelude.{◌≡◌, ◌≤◌};
 ghost use Rattle.table.specs.Code.{records};
 ghost use Rattle.table.specs.Table.{attribute_of, readable, writable, network, described, entry_fits, single_boolean, pair_of, end_of, follows, well_formed};
 
 use crate::Attribute;
-use crate::descriptor::{BOOLEAN, descriptor_size};
+use crate::descriptor::{descriptor_size, is_boolean};
 use crate::sizes::ENTRY;
 
 // The records of a table; bytes behind the last whole one are none.
@@ -54,14 +54,19 @@ pub(crate) fn is_network(a: Attribute) -> bool
 pub fn single_boolean(a: Attribute) -> bool
     ensures { result ≡ single_boolean a }
 {
-    a.descriptor / 256 % 16 == BOOLEAN && a.descriptor % 32 == 0 && a.len == 1
+    is_boolean(a.descriptor) && a.descriptor % 32 == 0 && a.len == 1
 }
 
 // Whether a network record has the size of its descriptor, and another record none.
 fn is_described(a: Attribute) -> bool
+    requires { 1 ≤ a.len }
     ensures { result ≡ described a }
 {
-    if is_network(a) { a.len == descriptor_size(a.descriptor) } else { a.descriptor == 0 }
+    if is_network(a) {
+        descriptor_size(a.descriptor) == Some(a.len)
+    } else {
+        a.descriptor == 0
+    }
 }
 
 // Whether a record by itself is as 01's table says.

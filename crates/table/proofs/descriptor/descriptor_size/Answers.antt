@@ -1,16 +1,9 @@
-use native.Mathlib.Nat.{div-one}
-use Rattle.laws.proofs.Tests.{tests}
-use Rattle.table.specs.Descriptor.{descriptor_size}
+use mathlib.Core.Path.{sym, ◌∙◌}
+use Rattle.std.proofs.Common.{None}
+use Rattle.table.proofs.Served.{described_by}
 use Rattle.table.proofs.descriptor.descriptor_size.Goals as goal
 
-pub returns-then-descriptor-ne0 : goal.returns-then-descriptor-ne0
-unfolding descriptor_size
-returns-then-descriptor-ne0 c = search tests
-
-pub returns-then-descriptor-ne0-2 : goal.returns-then-descriptor-ne0-2
-unfolding descriptor_size
-returns-then-descriptor-ne0-2 c = search tests
-
-pub returns : goal.returns
-unfolding descriptor_size
-returns c = search (tests, div-one, c.size_by.ensures)
+pub returns-in_err-kind : goal.returns-in_err-kind
+returns-in_err-kind c =
+    let u = sym c.is_unreserved.ensures ∙ c.if-not-is_unreserved.false in
+    c.from_residual.ensures ∙ sym (described_by _ None u (sym c.in_err-kind.was ∙ c.type_of.ensures))

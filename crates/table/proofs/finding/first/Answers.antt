@@ -20,8 +20,9 @@ returns g c = λ test says.
     ∙ find_from_yields_List test _ _ c.find.result c.find.ensures.ran
     (YieldsList-from_map _ attribute_of (YieldsList-at c.map.ensures.source (YieldsList-from_slice c.records.result.now cc)) c.map.ensures.closure (λ x r q k. search rules))
     (λ x b q k.
-    let w = k.called in
-    (g.met.F.Fn.1.step_stays _ _ _ _ (record { met = w.met }),
-    says x b (record { shown = k.shown; shows = k.shows; says = record { met = (g.met.F.FnMut.1.post_iff _ _ _).1 (q, record { met = w.met }) } })))
+    let w = k.called in (
+      g.met.F.Fn.1.step_stays _ _ _ _ (record { met = w.met }),
+      says x b (record { shown = k.shown; shows = k.shows; says = record { met = (g.met.F.FnMut.1.post_iff _ _ _).1 (q, record { met = w.met }) } }),
+    ))
     ∙ ap (find test) (rw c.records.ensures (attributes_said c.args.table.now))
     ∙ first_found test _
