@@ -37,9 +37,17 @@ fn play_next(from: Stdin, to: &impl Print, store: &mut [u8], work: &mut [u8]) ->
     }
     let table = sample::TABLE;
     let mut out = [0; sample::OUT];
-    let reply = device::step(&record[..n], sample::ADDRESS, &table, store, work, &mut out);
-    let number = reply.number;
-    let count = reply.count;
+    let (number, count) = match device::step(
+        &record[..n],
+        sample::ADDRESS,
+        &table,
+        store,
+        work,
+        &mut out,
+    ) {
+        Ok(count) => (0, count),
+        Err(refusal) => (refusal.number(), refusal.frames()),
+    };
     println!(to; "{number} {count}")?;
     Ok(n == RECORD)
 }
