@@ -8,6 +8,7 @@ ghost use Rattle.device.specs.Code.{Ready, carried_out};
 
 use answers::Request;
 use guest::{Plan, Refusal};
+use join::Piece;
 use octets::Data;
 use table::Attribute;
 
@@ -38,12 +39,19 @@ fn apply_join(
         body,
     } = part;
     let at = join::place_of(to.object);
-    if join::is_astray(work, at, guest::FRAGMENT_BYTES, to.id, total, number) {
+    // its data do not matter to what is asked of it here
+    let piece = Piece {
+        key: [to.id],
+        total,
+        number,
+        body: &[],
+    };
+    if join::is_astray(work, at, guest::FRAGMENT_BYTES, &piece) {
         join::clear(work, at);
         request.refuse(Refusal::OutOfOrder, out);
         return Err(Refusal::OutOfOrder);
     }
-    if join::is_last(guest::FRAGMENT_BYTES, total, number) {
+    if join::is_last(guest::FRAGMENT_BYTES, &piece) {
         writes::store_joined(to, number, body, work, store);
         join::clear(work, at);
         request.acknowledge(out);

@@ -51,8 +51,7 @@ pub fn store_joined(to: Attribute, number: u8, body: Data, work: &[u8], store: &
         work,
         join::place_of(to.object),
         guest::FRAGMENT_BYTES,
-        number,
-        &places[0..n],
+        &piece,
         &mut store[start..end],
     );
 }
@@ -70,9 +69,6 @@ pub fn keep_piece(to: Attribute, number: u8, total: u8, body: Data, work: &mut [
         work,
         join::place_of(to.object),
         guest::FRAGMENT_BYTES,
-        to.id,
-        total,
-        number,
-        &places[0..n],
+        &piece,
     );
 }
