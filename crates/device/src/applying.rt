@@ -9,6 +9,7 @@ ghost use Rattle.device.specs.Code.{Ready, carried_out};
 use crate::Reply;
 use codec::Header;
 use guest::Plan;
+use join::Piece;
 use octets::Data;
 use table::Attribute;
 
@@ -37,7 +38,14 @@ fn apply_join(
         ≡ carried_out (Plan.Join to number total body) own h (areas store.old work.old) out.old }
 {
     let at = join::place_of(to.object);
-    if join::is_astray(work, at, guest::FRAGMENT_BYTES, to.id, total, number) {
+    // what is asked here does not look at the data
+    let piece = Piece {
+        key: [to.id],
+        total,
+        number,
+        body: &[],
+    };
+    if join::is_astray(work, at, guest::FRAGMENT_BYTES, &piece) {
         join::clear(work, at);
         answers::refuse(own, h, 14, out);
         return Reply {
@@ -45,7 +53,7 @@ fn apply_join(
             count: 1,
         };
     }
-    if join::is_last(guest::FRAGMENT_BYTES, total, number) {
+    if join::is_last(guest::FRAGMENT_BYTES, &piece) {
         writes::store_joined(to, number, body, work, store);
         join::clear(work, at);
         answers::acknowledge(own, h, out);
