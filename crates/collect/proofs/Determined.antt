@@ -1,12 +1,13 @@
 -- DETERMINATION: two outcomes that meet a public function's contract are equal, and no contract asks anything of a caller. Of a value's part, its bytes.
 use mathlib.Core.Path.{◌≡◌, sym, ◌∙◌}
+use Rattle.collect.proofs.Refusals.{same_collected}
 use Rattle.collect.proofs.collecting.collect.Reads as collect
 use Rattle.collect.proofs.counting.tallied.Reads as tallied
 use Rattle.collect.proofs.showing.part_of.Reads as part_of
 
 pub collect_determined : (κs : _) (args : _) (r r' : _) (s s' : _) → collect.Post κs args r s → collect.Post κs args r' s'
     → (r ≡ r') × (s.1.0.now ≡ s'.1.0.now)
-collect_determined κs args r r' s s' p q = (p.0 ∙ sym q.0, p.1 ∙ sym q.1)
+collect_determined κs args r r' s s' p q = (same_collected r r' (p.0 ∙ sym q.0), p.1 ∙ sym q.1)
 
 pub tallied_determined : (κs : _) (args : _) (r r' : _) (s s' : _) → tallied.Post κs args r s → tallied.Post κs args r' s' → r ≡ r'
 tallied_determined κs args r r' s s' p q = p ∙ sym q

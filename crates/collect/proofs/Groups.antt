@@ -1,5 +1,5 @@
 -- The refusals as the code groups them are 02's list.
-use Prim.Native.Nat.{ℕ, ◌-◌, ◌≤◌}
+use Prim.Native.Nat.{ℕ, ◌+◌, ◌-◌, ◌≤◌, min}
 use mathlib.Core.Path.{◌≡◌, refl, sym, ap, ◌∙◌}
 use mathlib.Core.Bool.{Bool, true, false, cond}
 use mathlib.Core.List.{List, [], ◌∷◌}
@@ -13,6 +13,7 @@ use Rattle.laws.specs.Checks.{Check, first_of}
 use Rattle.laws.proofs.Tests.{split, halves}
 use Rattle.octets.specs.declared.Data.{Data}
 use Rattle.octets.specs.Data.{data_of}
+use Rattle.octets.proofs.Datas.{bytes_data}
 use Rattle.codec.specs.declared.Subject.{Subject}
 use Rattle.codec.specs.declared.Message.{Message}
 use Rattle.codec.specs.declared.Message.TheVariants.{Short, Plain, Fragment}
@@ -27,11 +28,10 @@ use Rattle.codec.proofs.Fits.{subject_fits_lem}
 use Rattle.codec.proofs.Images.{payload_is}
 use Rattle.codec.proofs.Long.{got, message_short, message_plain, message_fragment}
 use Rattle.codec.proofs.Trips.{read_is_carried, read_message}
-use Rattle.join.specs.Work.{data_size, shaped_by}
-use Rattle.collect.specs.declared.Value.TheVariants.{Nothing}
-use Rattle.collect.specs.declared.Collected.{Collected}
+use Rattle.join.specs.Work.{data_size, Piece, shaped_by}
+use Rattle.std.specs.Prelude.{None}
 use Rattle.collect.specs.Checks.{collect_size, answers_read, no_read_response, no_total, wrong_piece, bad_shape, piece_of}
-use Rattle.collect.specs.Step.{Judged, nobodys, spoilt, piece, guest_of, passing, refused, judged_of, gives, answer_to, work_after, answer_of, work_of}
+use Rattle.collect.specs.Step.{Answer, Judged, nobodys, spoilt, piece, guest_of, passing, refused, judged_of, gives, answer_to, work_after, answer_of, work_of}
 use Rattle.collect.specs.Code.{whole_judged, fragment_judged, message_judged, payload_judged, header_judged, Placed, Numbered, Ready}
 
 -- of a guest's message about a Read, the response decides
@@ -108,21 +108,37 @@ pub shaped_as : (total number : ℕ) (p : List ℕ) (t : Bool) → t ≡ shaped_
 unfolding data_of
 shaped_as total number p t e b f = ap (shaped_by most_fragment_data total number) (length-drop 2 p) ∙ sym e ∙ f
 
--- what stands behind them, as the code cuts it
-rest_is : (p : List ℕ) → take (length p - 2) (drop 2 p) ≡ drop 2 p
-rest_is p = take_all (length p - 2) (drop 2 p) (rw (length-drop 2 p) (omega arith))
+-- what stands behind them, as the code cuts it: at four bytes, which is all of it
+module _ (p : List ℕ) (z : Numbered (length p)) (len : ℕ) (le : len ≡ min (length p - 2) most_fragment_data) where
+  pub len_is : len ≡ length p - 2
+  len_is = omega (arith, le, z.most)
 
--- so a fragment of its shape is ready to be joined, and is judged so
-module _ (u : Subject) (p : List ℕ) (byte : byte_at p 1 ≤ data_size) (t : Bool) (e : t ≡ shaped_by most_fragment_data (byte_at p 1) (byte_at p 0) (length p - 2)) (f : t ≡ true) where
-  right_rest : wrong_piece (byte_at p 1) (byte_at p 0) (data_of (drop 2 p)).len ≡ false
-  right_rest = right_piece u (byte_at p 0) (byte_at p 1) (data_of (drop 2 p)) byte (shaped_as (byte_at p 1) (byte_at p 0) p t e true f)
+  rest_is : take (2 + len - 2) (drop 2 p) ≡ drop 2 p
+  rest_is = take_all (2 + len - 2) (drop 2 p) (rw (length-drop 2 p) (omega (arith, len_is)))
 
-  pub rest_ready : (size guest : ℕ) → Placed size guest → Ready size guest (byte_at p 1) (byte_at p 0) (length (take (length p - 2) (drop 2 p)))
-  unfolding data_of
-  rest_ready size guest z = record { placed = z; right = rw (rest_is p) right_rest }
+  -- so a fragment of its shape is ready to be joined, and is judged so
+  module _ (u : Subject) (byte : byte_at p 1 ≤ data_size) (t : Bool) (e : t ≡ shaped_by most_fragment_data (byte_at p 1) (byte_at p 0) len) (f : t ≡ true) where
+    abbrev rest : Piece
+    rest = record { key = u.id ∷ u.object ∷ []; total = byte_at p 1; number = byte_at p 0; bytes = take (2 + len - 2) (drop 2 p) }
 
-  pub rest_judged : (byte_at p 1 ≡ 0 → ⊥) → payload_judged u p ≡ piece u (piece_of u (byte_at p 0) (byte_at p 1) (data_of (take (length p - 2) (drop 2 p))))
-  rest_judged n = rw (rest_is p) (judged_piece u (byte_at p 0) (byte_at p 1) (data_of (drop 2 p)) n right_rest)
+    right_rest : wrong_piece (byte_at p 1) (byte_at p 0) (data_of (drop 2 p)).len ≡ false
+    right_rest = right_piece u (byte_at p 0) (byte_at p 1) (data_of (drop 2 p)) byte
+        (shaped_as (byte_at p 1) (byte_at p 0) p t (e ∙ ap (shaped_by most_fragment_data (byte_at p 1) (byte_at p 0)) len_is) true f)
+
+    pub rest_ready : (size : ℕ) → Placed size u.address → Ready size u rest
+    unfolding data_of
+    rest_ready size y = record { placed = y; right = rw rest_is right_rest; keyed = refl }
+
+    same_rest : piece_of u (byte_at p 0) (byte_at p 1) (data_of (drop 2 p)) ≡ rest
+    same_rest = λ i. record {
+      key = u.id ∷ u.object ∷ [];
+      total = byte_at p 1;
+      number = byte_at p 0;
+      bytes = (bytes_data (drop 2 p) (rw (length-drop 2 p) (omega (arith, z.most))) ∙ sym rest_is) i;
+    }
+
+    pub rest_judged : (byte_at p 1 ≡ 0 → ⊥) → payload_judged u p ≡ piece u rest
+    rest_judged n = judged_piece u (byte_at p 0) (byte_at p 1) (data_of (drop 2 p)) n right_rest ∙ ap (piece u) same_rest
 
 -- ---- one call, by the header
 
@@ -164,40 +180,40 @@ module _ (r : List ℕ) (e : first_of (read_checks r) ≡ 0) where
       record { least = omega (arith, n, l.flagged f); most = omega (arith, n, l.most) }
 
 module _ (r work : List ℕ) where
-  pub misfit_call : (length work ≡ collect_size → ⊥) → (c : Collected) → c ≡ gives 1 Nothing false → (c ≡ answer_of r work) × (work ≡ work_of r work)
+  pub misfit_call : (length work ≡ collect_size → ⊥) → (c : Answer) → c ≡ gives 1 None false → (c ≡ answer_of r work) × (work ≡ work_of r work)
   unfolding answer_to work_after
   misfit_call n c e = rw (misfit_judged (length work) r n) (e, refl)
 
   module _ (s : length work ≡ collect_size) where
-    pub malformed_call : (first_of (read_checks r) ≡ 0 → ⊥) → (c : Collected) → c ≡ gives 2 Nothing false → (c ≡ answer_of r work) × (work ≡ work_of r work)
+    pub malformed_call : (first_of (read_checks r) ≡ 0 → ⊥) → (c : Answer) → c ≡ gives 2 None false → (c ≡ answer_of r work) × (work ≡ work_of r work)
     unfolding answer_to work_after
     malformed_call d c e = rw (malformed_judged (length work) r s d) (e, refl)
 
     module _ (d : first_of (read_checks r) ≡ 0) where
       -- what the header says is what is answered
-      by_call : (j : Judged) → header_judged (header_of r) (payload_of r) ≡ j → (c : Collected) (m : List ℕ) → (c ≡ answer_to j work) × (m ≡ work_after j work)
+      by_call : (j : Judged) → header_judged (header_of r) (payload_of r) ≡ j → (c : Answer) (m : List ℕ) → (c ≡ answer_to j work) × (m ≡ work_after j work)
           → (c ≡ answer_of r work) × (m ≡ work_of r work)
       by_call j q c m e = rw (s, by_header r d, q) e
 
-      pub short_call : (header_of r).dlc ≡ 0 → (c : Collected) → c ≡ gives 3 Nothing false → (c ≡ answer_of r work) × (work ≡ work_of r work)
+      pub short_call : (header_of r).dlc ≡ 0 → (c : Answer) → c ≡ gives 3 None false → (c ≡ answer_of r work) × (work ≡ work_of r work)
       unfolding answer_to work_after header_judged
       short_call z c e = by_call (nobodys 3) (simp (eq-eqb (header_of r).dlc 0 z)) c work (e, refl)
 
       module _ (z : (header_of r).dlc ≡ 0 → ⊥) where
-        pub unanswering_call : answers_read (subject_of (header_of r)) ≡ false → (c : Collected) → c ≡ gives 3 Nothing false
+        pub unanswering_call : answers_read (subject_of (header_of r)) ≡ false → (c : Answer) → c ≡ gives 3 None false
             → (c ≡ answer_of r work) × (work ≡ work_of r work)
         unfolding answer_to work_after header_judged
         unanswering_call a c e = by_call (nobodys 3) (simp (ne_eqb (header_of r).dlc 0 z, a)) c work (e, refl)
 
         module _ (a : answers_read (subject_of (header_of r)) ≡ true) where
-          pub whole_call : ((header_of r).flag ≡ 1 → ⊥) → (c : Collected) → ((w : List ℕ) → c ≡ answer_to (whole_judged (subject_of (header_of r)) ((header_of r).dlc - 2)) w)
+          pub whole_call : ((header_of r).flag ≡ 1 → ⊥) → (c : Answer) → ((w : List ℕ) → c ≡ answer_to (whole_judged (subject_of (header_of r)) ((header_of r).dlc - 2)) w)
               → (c ≡ answer_of r work) × (work ≡ work_of r work)
           unfolding header_judged
           whole_call f c e =
               by_call (whole_judged (subject_of (header_of r)) ((header_of r).dlc - 2)) (simp (ne_eqb (header_of r).dlc 0 z, a, ne_eqb (header_of r).flag 1 f))
               c work (e work, whole_leaves (subject_of (header_of r)) ((header_of r).dlc - 2) work)
 
-          pub fragment_call : (header_of r).flag ≡ 1 → (c : Collected) (m : List ℕ)
+          pub fragment_call : (header_of r).flag ≡ 1 → (c : Answer) (m : List ℕ)
               → (c ≡ answer_to (payload_judged (subject_of (header_of r)) (payload_of r)) work) × (m ≡ work_after (payload_judged (subject_of (header_of r)) (payload_of r)) work)
               → (c ≡ answer_of r work) × (m ≡ work_of r work)
           unfolding header_judged

@@ -1,3 +1,4 @@
+pub mod Refusals
 pub mod Groups
 pub mod Cuts
 pub mod Taking

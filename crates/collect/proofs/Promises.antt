@@ -25,9 +25,9 @@ use Rattle.codec.specs.Reading.{message_of, read_of}
 use Rattle.join.specs.Work.{base, Piece, load, last, Joined, kept, done, lost, astray, joined, dropped, area_after}
 use Rattle.join.specs.History.{chain, completes, message, Completes}
 use Rattle.join.proofs.Joins.{completes_in_words}
-use Rattle.collect.specs.declared.Value.TheVariants.{Nothing, Whole, Complete}
+use Rattle.std.specs.Prelude.{None}
 use Rattle.collect.specs.Checks.{collect_size, guest_count, joiner, piece_of, answers_read, no_read_response, out_of_order, frame_checks, checks}
-use Rattle.collect.specs.Step.{Judged, nobodys, spoilt, whole, piece, guest_of, passing, judged_of, gives, join_number, join_value, joined_in, answer_to, work_after, part_of, answer_of, work_of}
+use Rattle.collect.specs.Step.{Whole, Complete, Judged, nobodys, spoilt, whole, piece, guest_of, passing, judged_of, gives, join_number, join_value, joined_in, answer_to, work_after, part_of, answer_of, work_of}
 use Rattle.collect.specs.Tally.{hands_over}
 use Rattle.collect.specs.Code.{whole_judged, message_judged}
 use Rattle.collect.specs.Belongs.{Good, owner_of, Kept, next, seen, seen_of}
@@ -77,7 +77,7 @@ zero_or_six (done bs) h l = omega arith
 zero_or_six lost h l = omega arith
 
 refused_leaves : (j : Judged) (work : List ℕ) → 0 < (answer_to j work).number → (answer_to j work).number ≤ 5
-    → (work_after j work ≡ work) × (answer_to j work ≡ gives (answer_to j work).number Nothing false)
+    → (work_after j work ≡ work) × (answer_to j work ≡ gives (answer_to j work).number None false)
 unfolding answer_to work_after
 refused_leaves (nobodys n) work h l = (refl, refl)
 refused_leaves (spoilt guest n) work h l = (refl, refl)
@@ -85,18 +85,18 @@ refused_leaves (whole u n) work h l = absurd (omega arith)
 refused_leaves (piece u p) work h l = absurd (zero_or_six (joined_in work u.address p) h l)
 
 pub refused_alters_nothing : (r work : List ℕ) → 0 < (answer_of r work).number → (answer_of r work).number ≤ 5
-    → (work_of r work ≡ work) × (answer_of r work ≡ gives (answer_of r work).number Nothing false)
+    → (work_of r work ≡ work) × (answer_of r work ≡ gives (answer_of r work).number None false)
 refused_alters_nothing r work = refused_leaves (judged_of (length work) r) work
 
 lost_drops : (u : Subject) (p : Piece) (work : List ℕ) (x : Joined) → join_number x ≡ 6
-    → (area_after joiner (base u.address) p x work ≡ dropped (base u.address) work) × (join_value u p x ≡ Nothing)
+    → (area_after joiner (base u.address) p x work ≡ dropped (base u.address) work) × (join_value u p x ≡ None)
 unfolding area_after
 lost_drops u p work kept e = absurd (omega arith)
 lost_drops u p work (done bs) e = absurd (omega arith)
 lost_drops u p work lost e = (refl, refl)
 
 passing_drops : (m : Message) (work : List ℕ) → (answer_to (passing m) work).number ≡ 6
-    → (work_after (passing m) work ≡ dropped (base (guest_of m)) work) × ((answer_to (passing m) work).value ≡ Nothing)
+    → (work_after (passing m) work ≡ dropped (base (guest_of m)) work) × ((answer_to (passing m) work).value ≡ None)
 unfolding answer_to work_after
 passing_drops (Short dir address service) work e = absurd (omega arith)
 passing_drops (Plain u b) work e = absurd (omega arith)
@@ -104,7 +104,7 @@ passing_drops (Fragment u number total b) work e = lost_drops u (piece_of u numb
 
 -- the status byte of the guest's record becomes 0, and nothing else alters
 pub six_drops : (r work : List ℕ) → (answer_of r work).number ≡ 6
-    → (work_of r work ≡ dropped (base (guest_of (message_of r))) work) × ((answer_of r work).value ≡ Nothing)
+    → (work_of r work ≡ dropped (base (guest_of (message_of r))) work) × ((answer_of r work).value ≡ None)
 unfolding judged_of answer_to
 six_drops r work =
     let n = first_of (frame_checks (length work) r) in

@@ -17,9 +17,8 @@ use Rattle.join.specs.History.{Fit, All}
 use Rattle.join.proofs.Places.{in_record}
 use Rattle.join.proofs.Records.{load_same, load_after, area_length, held_size, stepped, stored_last}
 use Rattle.join.proofs.Joins.{after, history}
-use Rattle.collect.specs.declared.Value.TheVariants.{Whole}
 use Rattle.collect.specs.Checks.{collect_size, joiner}
-use Rattle.collect.specs.Step.{Judged, nobodys, spoilt, whole, piece, owner, judged_of, join_number, join_value, joined_in, answer_to, work_after, part_of, work_of}
+use Rattle.collect.specs.Step.{Whole, Judged, nobodys, spoilt, whole, piece, owner, judged_of, join_number, join_value, joined_in, answer_to, work_after, part_of, work_of}
 use Rattle.collect.specs.Belongs.{InRecord, Good, owner_of, seen_of}
 use Rattle.collect.specs.History.{with_piece, pieces_of, joined_by, joined_bytes, tells, told_by, told}
 use Rattle.collect.specs.Mixes.{told_of}

@@ -11,11 +11,10 @@ use borrow.Author.Tests.{ltb-true, ltb-false}
 use Rattle.laws.specs.Mixing.{those, is_owned, answers_of, run, trace}
 use Rattle.laws.proofs.Tests.{split}
 use Rattle.laws.proofs.Counts.{counted_alike}
-use Rattle.collect.specs.declared.Value.TheVariants.{Nothing}
-use Rattle.collect.specs.declared.Collected.{Collected}
+use Rattle.std.specs.Prelude.{None}
 use Rattle.collect.specs.declared.Tally.{Tally}
 use Rattle.collect.specs.Checks.{collect_size, guest_count}
-use Rattle.collect.specs.Step.{Judged, nobodys, spoilt, whole, piece, judged_of, owner, gives, answer_to, answer_of, work_of}
+use Rattle.collect.specs.Step.{Answer, Judged, nobodys, spoilt, whole, piece, judged_of, owner, gives, answer_to, answer_of, work_of}
 use Rattle.collect.specs.Tally.{most, one_more, hands_over, tallied, up_by, tallied_by}
 use Rattle.collect.specs.Belongs.{Good, owner_of, Seen, seen_of, Kept, next, seen}
 use Rattle.collect.proofs.Sound.{owner_below}
@@ -39,7 +38,7 @@ one_fits : (n : ℕ) (on : Bool) → n ≤ most → one_more n on ≤ most
 one_fits n true h = split (ltb n most) (λ t. simp t (omega (arith, ltb-true))) (λ t. simp t h)
 one_fits n false h = h
 
-next_fits : (t : Tally) (c : Collected) → Fits t → Fits (tallied t c)
+next_fits : (t : Tally) (c : Answer) → Fits t → Fits (tallied t c)
 unfolding tallied
 next_fits t c h = record {
   seen = one_fits t.seen true h.seen;
@@ -75,7 +74,7 @@ tally_after [] k h =
     up n l = omega arith
 tally_after (r ∷ fs) k h =
     let t : Tally = k.tally in
-    let c : Collected = answer_of r k.work in
+    let c : Answer = answer_of r k.work in
     let ts : List (List ℕ × Seen) = trace work_of seen_of fs (work_of r k.work) in
     tally_after fs (next r k) (next_fits t c h)
     ∙ (λ i. record {
@@ -87,7 +86,7 @@ tally_after (r ∷ fs) k h =
 -- ---- the order of the frames
 
 -- a test of answers that takes no mere refusal
-module _ (q : Collected → Bool) (quiet : (n : ℕ) → q (gives n Nothing false) ≡ false) where
+module _ (q : Answer → Bool) (quiet : (n : ℕ) → q (gives n None false) ≡ false) where
   -- the test, of a call with its frame; and the same, but only where the frame has an owner
   abbrev takes : List ℕ × Seen → Bool
   takes t = q t.1.0

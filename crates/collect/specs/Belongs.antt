@@ -3,10 +3,9 @@ use Rattle.std.specs.Prelude.{ℕ, ◌≡◌, List, length}
 use Rattle.std.proofs.Math.Option.{Option}
 use Rattle.laws.specs.Put.{Agree}
 use Rattle.join.specs.Work.{record_of}
-use Rattle.collect.specs.declared.Collected.{Collected}
 use Rattle.collect.specs.declared.Tally.{Tally}
 use Rattle.collect.specs.Checks.{collect_size}
-use Rattle.collect.specs.Step.{judged_of, owner, answer_of, work_of, part_of}
+use Rattle.collect.specs.Step.{Answer, judged_of, owner, answer_of, work_of, part_of}
 use Rattle.collect.specs.Tally.{tallied}
 
 abbrev pub InRecord : ℕ → ℕ → Type 0
@@ -25,7 +24,7 @@ owner_of r = owner (judged_of collect_size r)
 
 -- what a caller sees of one call: the answer, and the bytes that are handed over
 abbrev pub Seen : Type 0
-Seen = Collected × List ℕ
+Seen = Answer × List ℕ
 
 abbrev pub seen_of : List ℕ → List ℕ → Seen
 seen_of r work = (answer_of r work, part_of (answer_of r work).value r (work_of r work))

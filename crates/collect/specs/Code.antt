@@ -1,5 +1,5 @@
 -- The refusals as the code groups them, of a frame that has passed 1 and 2.
-use Rattle.std.specs.Prelude.{ℕ, ◌-◌, ◌≤◌, ◌≡◌, false, cond, List, [], drop, eqb}
+use Rattle.std.specs.Prelude.{ℕ, ◌-◌, ◌≤◌, ◌≡◌, false, cond, List, [], ◌∷◌, length, drop, eqb, Option, Some, None, Result, Ok, Err}
 use Rattle.laws.specs.Bytes.{byte_at}
 use Rattle.octets.specs.declared.Data.{Data}
 use Rattle.octets.specs.Data.{most_data, data_of}
@@ -11,9 +11,11 @@ use Rattle.codec.specs.Names.{most_address}
 use Rattle.codec.specs.Reading.{subject_of}
 use Rattle.join.specs.Work.{base, Piece, last, kept, done, area_after}
 use Rattle.collect.specs.declared.Value.{Value}
-use Rattle.collect.specs.declared.Value.TheVariants.{Nothing, Complete}
+use Rattle.collect.specs.declared.Refusal.{Refusal}
+use Rattle.collect.specs.declared.Refusal.TheVariants.{Size, Malformed, NoAnswer, NoTotal, BadShape, OutOfOrder}
+use Rattle.collect.specs.declared.Collected.{Collected}
 use Rattle.collect.specs.Checks.{collect_size, answers_read, wrong_piece, joiner, piece_of}
-use Rattle.collect.specs.Step.{Judged, nobodys, spoilt, whole, piece}
+use Rattle.collect.specs.Step.{Judged, nobodys, spoilt, whole, piece, Answer, Complete, gives}
 
 -- 5 of an answer in one frame
 unfoldable pub whole_judged : Subject → ℕ → Judged
@@ -50,14 +52,38 @@ pub record Numbered (len : ℕ) : Type 0 where
   pub least : 2 ≤ len
   pub most : len ≤ most_data
 
--- and a fragment of its shape
-pub record Ready (size guest total number len : ℕ) : Type 0 where
-  pub placed : Placed size guest
-  pub right : wrong_piece total number len ≡ false
+-- and a fragment of its shape, with the guest's key
+pub record Ready (size : ℕ) (u : Subject) (p : Piece) : Type 0 where
+  pub placed : Placed size u.address
+  pub right : wrong_piece p.total p.number (length p.bytes) ≡ false
+  pub keyed : p.key ≡ u.id ∷ u.object ∷ []
 
 -- a fragment that is in order: what is handed over, and the work area
-unfoldable pub taken_value : Subject → Piece → Value
-taken_value u p = cond (last joiner p) (Complete u.address u.object u.id p.total) Nothing
+unfoldable pub taken_value : Subject → Piece → Option Value
+taken_value u p = cond (last joiner p) (Complete u.address u.object u.id p.total) None
 
 unfoldable pub taken_work : Subject → Piece → List ℕ → List ℕ
 taken_work u p work = area_after joiner (base u.address) p (cond (last joiner p) (done []) kept) work
+
+-- ---- the code's answer
+
+-- 02's numbers of the code's refusals
+abbrev pub refusal_number : Refusal → ℕ
+refusal_number Size = 1
+refusal_number Malformed = 2
+refusal_number NoAnswer = 3
+refusal_number NoTotal = 4
+refusal_number BadShape = 5
+refusal_number OutOfOrder = 6
+
+-- its number, 0 where the frame is collected, and what is handed over
+abbrev pub number_of : {A : Type 0} → Result A Refusal → ℕ
+number_of (Ok v) = 0
+number_of (Err e) = refusal_number e
+
+abbrev pub value_of : Result (Option Value) Refusal → Option Value
+value_of (Ok v) = v
+value_of (Err e) = None
+
+abbrev pub answered : Collected → Answer
+answered c = gives (number_of c.outcome) (value_of c.outcome) c.dropped

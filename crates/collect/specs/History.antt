@@ -1,12 +1,11 @@
 -- What is handed over, said from the frames alone and reading no work area. A history is a list of records, the newest first.
-use Rattle.std.specs.Prelude.{ℕ, cond, List, [], ◌∷◌, eqb}
+use Rattle.std.specs.Prelude.{ℕ, cond, List, [], ◌∷◌, eqb, Option, None}
 use Rattle.codec.specs.Reading.{payload_of}
 use Rattle.join.specs.Work.{Piece, Joined, kept, done, lost, last}
 use Rattle.join.specs.History.{chain, message}
 use Rattle.collect.specs.declared.Value.{Value}
-use Rattle.collect.specs.declared.Value.TheVariants.{Nothing, Whole}
 use Rattle.collect.specs.Checks.{collect_size, joiner}
-use Rattle.collect.specs.Step.{Judged, nobodys, spoilt, whole, piece, judged_of, join_number, join_value}
+use Rattle.collect.specs.Step.{Judged, nobodys, spoilt, whole, piece, judged_of, Whole, join_number, join_value}
 
 -- the fragments from one guest that pass 1 to 5, in order: one frame's, in front of the earlier ones
 abbrev pub with_piece : ℕ → Judged → List Piece → List Piece
@@ -35,15 +34,15 @@ joined_bytes lost = []
 -- the number of a frame's answer, what is handed over, and its bytes, from the history before it. A whole frame hands over its own
 pub record Told : Type 0 where
   pub number : ℕ
-  pub value : Value
+  pub value : Option Value
   pub bytes : List ℕ
 
-abbrev pub tells : ℕ → Value → List ℕ → Told
+abbrev pub tells : ℕ → Option Value → List ℕ → Told
 tells number value bytes = record { number = number; value = value; bytes = bytes }
 
 unfoldable pub told_by : List (List ℕ) → List ℕ → Judged → Told
-told_by h r (nobodys n) = tells n Nothing []
-told_by h r (spoilt guest n) = tells n Nothing []
+told_by h r (nobodys n) = tells n None []
+told_by h r (spoilt guest n) = tells n None []
 told_by h r (whole u n) = tells 0 (Whole u.address u.object u.id n) (payload_of r)
 told_by h r (piece u p) =
     tells (join_number (joined_by h u.address p)) (join_value u p (joined_by h u.address p)) (joined_bytes (joined_by h u.address p))

@@ -1,5 +1,6 @@
 -- One frame into the collector: what is handed over, what the work area holds then, and whether a half-joined message was lost (02, 2026-07).
-use Rattle.std.specs.Prelude.{ℕ, ◌+◌, Bool, false, cond, ◌&&◌, List, [], length, take, drop, eqb, leb}
+use Rattle.std.specs.Prelude.{ℕ, ◌+◌, Bool, false, cond, ◌&&◌, List, [], length, take, drop, eqb, leb, Some, None}
+use Rattle.std.specs.Prelude as Code
 use Rattle.std.proofs.Math.Option.{Option, none, some}
 use Rattle.laws.specs.Checks.{first_of}
 use Rattle.codec.specs.declared.Subject.{Subject}
@@ -9,8 +10,8 @@ use Rattle.codec.specs.Names.{payload_place}
 use Rattle.codec.specs.Reading.{message_of}
 use Rattle.join.specs.Work.{head_size, base, Piece, load, filling, Joined, kept, done, lost, joined, area_after}
 use Rattle.collect.specs.declared.Value.{Value}
-use Rattle.collect.specs.declared.Value.TheVariants.{Nothing, Whole, Complete}
-use Rattle.collect.specs.declared.Collected.{Collected}
+use Rattle.collect.specs.declared.Place.{Place}
+use Rattle.collect.specs.declared.Place.TheVariants.{Frame, Work}
 use Rattle.collect.specs.Checks.{joiner, piece_of, frame_checks}
 
 -- ---- what is judged of a frame, without state
@@ -51,9 +52,21 @@ owner (spoilt guest n) = some guest
 owner (whole u n) = some u.address
 owner (piece u p) = some u.address
 
--- ---- what is answered: a number, what is handed over, and whether a filling record was lost
+-- ---- what is answered: a number, what is handed over if anything, and whether a filling record was lost
 
-abbrev pub gives : ℕ → Value → Bool → Collected
+pub record Answer : Type 0 where
+  pub number : ℕ
+  pub value : Code.Option Value
+  pub dropped : Bool
+
+-- a whole answer is a part of its frame, a joined one a part of the work area
+abbrev pub Whole : (guest object id n : ℕ) → Code.Option Value
+Whole guest object id n = Some (record { guest = guest; object = object; id = id; len = n; place = Frame })
+
+abbrev pub Complete : (guest object id n : ℕ) → Code.Option Value
+Complete guest object id n = Some (record { guest = guest; object = object; id = id; len = n; place = Work })
+
+abbrev pub gives : ℕ → Code.Option Value → Bool → Answer
 gives number value dropped = record { number = number; value = value; dropped = dropped }
 
 -- what a fragment brings about, by what the joiner says to it
@@ -63,10 +76,10 @@ join_number (done bs) = 0
 join_number lost = 6
 
 -- "hands over each complete value with guest, object and ID"
-abbrev pub join_value : Subject → Piece → Joined → Value
-join_value u p kept = Nothing
+abbrev pub join_value : Subject → Piece → Joined → Code.Option Value
+join_value u p kept = None
 join_value u p (done bs) = Complete u.address u.object u.id p.total
-join_value u p lost = Nothing
+join_value u p lost = None
 
 -- "each filling record lost, to a new number 0 too"
 abbrev pub loses : Bool → Piece → Joined → Bool
@@ -74,7 +87,7 @@ loses filled p kept = filled && eqb p.number 0
 loses filled p (done bs) = filled && eqb p.number 0
 loses filled p lost = filled
 
-abbrev pub join_answer : Bool → Subject → Piece → Joined → Collected
+abbrev pub join_answer : Bool → Subject → Piece → Joined → Answer
 join_answer filled u p x = gives (join_number x) (join_value u p x) (loses filled p x)
 
 -- the record of the guest that a fragment is from: whether it is filling, and what the joiner says
@@ -85,9 +98,9 @@ unfoldable pub joined_in : List ℕ → ℕ → Piece → Joined
 joined_in work guest p = joined joiner p (load joiner (base guest) work)
 
 -- "A whole frame is handed over at once"
-unfoldable pub answer_to : Judged → List ℕ → Collected
-answer_to (nobodys n) work = gives n Nothing false
-answer_to (spoilt guest n) work = gives n Nothing false
+unfoldable pub answer_to : Judged → List ℕ → Answer
+answer_to (nobodys n) work = gives n None false
+answer_to (spoilt guest n) work = gives n None false
 answer_to (whole u n) work = gives 0 (Whole u.address u.object u.id n) false
 answer_to (piece u p) work = join_answer (filling_in work u.address) u p (joined_in work u.address p)
 
@@ -100,7 +113,7 @@ work_after (piece u p) work = area_after joiner (base u.address) p (joined_in wo
 
 -- ---- one call, of any frame and any work area
 
-abbrev pub answer_of : List ℕ → List ℕ → Collected
+abbrev pub answer_of : List ℕ → List ℕ → Answer
 answer_of r work = answer_to (judged_of (length work) r) work
 
 abbrev pub work_of : List ℕ → List ℕ → List ℕ
@@ -113,13 +126,20 @@ abbrev pub cut : ℕ → ℕ → List ℕ → List ℕ
 cut at n l = cond (leb (at + n) (length l)) (take n (drop at l)) []
 
 -- where a value begins: a whole one behind the ID of its frame, a joined one where the data of its guest's record do
-abbrev pub place_of : Value → ℕ
-place_of Nothing = 0
-place_of (Whole guest object id n) = payload_place
-place_of (Complete guest object id n) = base guest + head_size
+abbrev pub place_by : Place → ℕ → ℕ
+place_by Frame guest = payload_place
+place_by Work guest = base guest + head_size
+
+abbrev pub place_of : Code.Option Value → ℕ
+place_of None = 0
+place_of (Some v) = place_by v.place v.guest
+
+-- the area that it is a part of
+abbrev pub area_of : Place → List ℕ → List ℕ → List ℕ
+area_of Frame r work = r
+area_of Work r work = work
 
 -- "A joined value is shown as a part of the work area, a whole one as a part of the frame"
-unfoldable pub part_of : Value → List ℕ → List ℕ → List ℕ
-part_of Nothing r work = []
-part_of (Whole guest object id n) r work = cut (place_of (Whole guest object id n)) n r
-part_of (Complete guest object id n) r work = cut (place_of (Complete guest object id n)) n work
+unfoldable pub part_of : Code.Option Value → List ℕ → List ℕ → List ℕ
+part_of None r work = []
+part_of (Some v) r work = cut (place_of (Some v)) v.len (area_of v.place r work)

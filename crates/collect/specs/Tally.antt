@@ -1,9 +1,8 @@
 -- The tally (02, 2026-07): "A tally of frames seen, values finished and messages dropped is lent to the collector and updated there".
-use Rattle.std.specs.Prelude.{ℕ, ◌+◌, min, Bool, true, false, cond, ltb}
+use Rattle.std.specs.Prelude.{ℕ, ◌+◌, min, Bool, true, false, cond, ltb, Option, Some, None}
 use Rattle.collect.specs.declared.Value.{Value}
-use Rattle.collect.specs.declared.Value.TheVariants.{Nothing, Whole, Complete}
-use Rattle.collect.specs.declared.Collected.{Collected}
 use Rattle.collect.specs.declared.Tally.{Tally}
+use Rattle.collect.specs.Step.{Answer}
 
 -- the largest value of 32 bits
 abbrev pub most : ℕ
@@ -13,13 +12,12 @@ most = 4294967295
 abbrev pub one_more : ℕ → Bool → ℕ
 one_more n on = cond on (cond (ltb n most) (n + 1) n) n
 
-abbrev pub hands_over : Value → Bool
-hands_over Nothing = false
-hands_over (Whole guest object id n) = true
-hands_over (Complete guest object id n) = true
+abbrev pub hands_over : Option Value → Bool
+hands_over None = false
+hands_over (Some v) = true
 
 -- "every call counts as a frame seen, and each filling record lost .. as dropped"
-unfoldable pub tallied : Tally → Collected → Tally
+unfoldable pub tallied : Tally → Answer → Tally
 tallied t c = record {
   seen = one_more t.seen true;
   finished = one_more t.finished (hands_over c.value);

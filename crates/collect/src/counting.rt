@@ -1,50 +1,24 @@
 // The tally.
 ghost use Rattle.std.specs.Prelude.{◌≡◌};
-ghost use Rattle.collect.specs.Tally.{one_more, hands_over, tallied};
+ghost use Rattle.collect.specs.Tally.{one_more, tallied};
+ghost use Rattle.collect.specs.Code.{answered};
 
-use crate::{Collected, Tally, Value};
+use crate::{Collected, Tally};
 
 // One more where something came up, up to the largest value, where it stays.
 fn one_more(n: u32, on: bool) -> u32
     ensures { result ≡ one_more n on }
 {
-    if on {
-        if n < 4294967295 {
-            return n + 1;
-        }
-        return n;
-    }
-    n
-}
-
-fn hands_over(value: Value) -> bool
-    ensures { result ≡ hands_over value }
-{
-    match value {
-        Value::Nothing => false,
-        Value::Whole {
-            guest: _,
-            object: _,
-            id: _,
-            len: _,
-        } => true,
-        Value::Complete {
-            guest: _,
-            object: _,
-            id: _,
-            len: _,
-        } => true,
-    }
+    n.saturating_add(u32::from(on))
 }
 
 // The tally after a call.
 pub fn tallied(t: Tally, c: Collected) -> Tally
-    ensures { result ≡ tallied t c }
+    ensures { result ≡ tallied t (answered c) }
 {
-    let value = c.value;
     Tally {
         seen: one_more(t.seen, true),
-        finished: one_more(t.finished, hands_over(value)),
+        finished: one_more(t.finished, c.outcome.unwrap_or(None).is_some()),
         dropped: one_more(t.dropped, c.dropped),
     }
 }

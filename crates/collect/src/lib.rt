@@ -1,6 +1,9 @@
 // The host's side of a long Read (02, 2026-07): what guests answer, frame by frame, becomes whole values. Nothing is known here of tables and stores.
 #![tactic(auto)]
 
+ghost use Rattle.std.specs.Prelude.{◌≡◌};
+ghost use Rattle.collect.specs.Code.{refusal_number};
+
 mod collecting;
 mod counting;
 mod showing;
@@ -14,31 +17,52 @@ pub const GUESTS: usize = codec::MOST_ADDRESS as usize + 1;
 
 pub const AREA: usize = GUESTS * join::RECORD;
 
-// What is handed over, and whose it is: part_of gives its bytes.
-#[derive(Clone, Copy)]
-pub enum Value {
-    Nothing,
-    // A part of the frame.
-    Whole {
-        guest: u8,
-        object: u8,
-        id: u8,
-        len: u8,
-    },
-    // A part of the work area.
-    Complete {
-        guest: u8,
-        object: u8,
-        id: u8,
-        len: u8,
-    },
+// Which of the two lent areas the bytes of a value are a part of.
+#[derive(Clone, Copy, PartialEq, Eq)]
+pub enum Place {
+    Frame,
+    Work,
 }
 
-// What a frame brings: the number of the refusal or 0, what is handed over, and whether a half-joined message was lost.
+// What is handed over, and whose it is: part_of gives its bytes.
+#[derive(Clone, Copy)]
+pub struct Value {
+    pub guest: u8,
+    pub object: u8,
+    pub id: u8,
+    pub len: u8,
+    pub place: Place,
+}
+
+// Why a frame is refused, by 02's numbers.
+#[derive(Clone, Copy, PartialEq, Eq)]
+pub enum Refusal {
+    // A lent area has another length.
+    Size = 1,
+    // The codec refuses the frame.
+    Malformed = 2,
+    // It is no answer to a Read.
+    NoAnswer = 3,
+    // A fragment of a message with total 0.
+    NoTotal = 4,
+    // A fragment whose place or length is not its number's, or a whole answer without data.
+    BadShape = 5,
+    // A fragment that does not follow what its guest's record holds.
+    OutOfOrder = 6,
+}
+
+impl Refusal {
+    pub fn number(self) -> u8
+        ensures { result ≡ refusal_number self }
+    {
+        self as u8
+    }
+}
+
+// What a frame brings: what is handed over, if anything, or why it is refused; and whether a half-joined message was lost.
 #[derive(Clone, Copy)]
 pub struct Collected {
-    pub number: u8,
-    pub value: Value,
+    pub outcome: Result<Option<Value>, Refusal>,
     pub dropped: bool,
 }
 

@@ -35,9 +35,9 @@ use Rattle.guest.specs.declared.Plan.TheVariants.{Read}
 use Rattle.guest.specs.Step.{Judged, asks, judged_of, effect_of, joined_in, answering, fragment_part, fragment_frame, fragment_frames, fragment_count, read_frames, reply_to, Call, setting_of}
 use Rattle.guest.proofs.Plans.{accepted, Its, ServedBy, by_switch, by_read, by_write, by_join, served_by}
 use Rattle.guest.proofs.Frames.{whole_reads, fragment_reads, read_count}
-use Rattle.collect.specs.declared.Value.TheVariants.{Nothing, Whole, Complete}
+use Rattle.std.specs.Prelude.{None}
 use Rattle.collect.specs.Checks.{collect_size, joiner, answers_read, wrong_piece}
-use Rattle.collect.specs.Step.{piece, gives, work_of}
+use Rattle.collect.specs.Step.{Whole, Complete, piece, gives, work_of}
 use Rattle.collect.specs.Step as Collect
 use Rattle.collect.specs.Belongs.{Good, Seen, seen_of, Kept, next, seen}
 use Rattle.collect.specs.Mixes.{told_of}
@@ -121,7 +121,7 @@ module _ (own : ℕ) (h : Header) (o : own ≤ most_address) (s : h.service ≡ 
       (rw (gathered h0 n (omega arith), mul-suc 4 n) (sym (take-add (4 * n) 4 bs)))
 
   -- every fragment but the last is kept, and the last hands over all of the bytes
-  told_early : (h0 : List (List ℕ)) (n : ℕ) → suc n < m → told (hist h0 n) (frame n) ≡ tells 0 Nothing []
+  told_early : (h0 : List (List ℕ)) (n : ℕ) → suc n < m → told (hist h0 n) (frame n) ≡ tells 0 None []
   unfolding told_by joined_by
   told_early h0 n l =
       let more : leb L (4 * n + 4) ≡ false = lt-leb L (4 * n + 4) (omega arith) in
@@ -156,10 +156,10 @@ module _ (own : ℕ) (h : Header) (o : own ≤ most_address) (s : h.service ≡ 
         ∙ map-append (λ (a : List ℕ × Seen). told_of a.1) (trace next seen (fragment_frames u bs n) k) _
         ∙ ap (λ (v : Told). handed_over (fragment_frames u bs n) k ++ v ∷ []) (handed_at n t e)
 
-    early : (n : ℕ) → n < m → handed_over (fragment_frames u bs n) k ≡ replicate n (tells 0 Nothing [])
+    early : (n : ℕ) → n < m → handed_over (fragment_frames u bs n) k ≡ replicate n (tells 0 None [])
     early zero l = refl
     early (suc n) l =
-        one_more_lem n (tells 0 Nothing []) (told_early h0 n l) ∙ ap (λ (a : List Told). a ++ tells 0 Nothing [] ∷ []) (early n (omega arith)) ∙ replicate_more n
+        one_more_lem n (tells 0 None []) (told_early h0 n l) ∙ ap (λ (a : List Told). a ++ tells 0 None [] ∷ []) (early n (omega arith)) ∙ replicate_more n
 
     fragments_meet : (n : ℕ) → suc n ≡ m → handed_over (fragment_frames u bs m) k ≡ only_last n (Complete own h.object h.id L) bs
     fragments_meet n e =

@@ -19,8 +19,8 @@ use Rattle.candump.specs.Frame.{unused_cleared}
 use Rattle.candump.specs.Importing.{import_checks, import_of}
 use Rattle.candump.specs.Exporting.{line_room, line_of, put_checks, put_of, put_left}
 use Rattle.candump.proofs.Promises.{import_number, put_refuses_exactly, put_small, refused_buffer_unchanged, put_leaves, line_back}
-use Rattle.collect.specs.declared.Value.TheVariants.{Nothing, Complete}
-use Rattle.collect.specs.Step.{gives, answer_of, work_of, place_of}
+use Rattle.std.specs.Prelude.{None}
+use Rattle.collect.specs.Step.{Complete, gives, answer_of, work_of, place_of}
 use Rattle.sds_host.specs.Border.{border_import_number, border_import, border_export_answer, value_size, value_bytes, border_answer, border_work, border_value}
 
 -- ---- refusals
@@ -79,7 +79,7 @@ module _ (r l : List ℕ) (b : Bytes r) (ten : length r ≡ frame_size) (few : (
 module _ (r work value : List ℕ) where
   -- a value buffer of another length is 1, and then nothing of what is lent alters but the tally; else the number, the work area and the tally are the collector's
   pub no_value_unchanged : (length value ≡ value_size → ⊥)
-      → (border_answer r work value ≡ gives 1 Nothing false) × (border_work r work value ≡ work) × (border_value r work value ≡ value)
+      → (border_answer r work value ≡ gives 1 None false) × (border_work r work value ≡ work) × (border_value r work value ≡ value)
   unfolding border_answer border_work border_value
   no_value_unchanged h = let f = ne_eqb (length value) value_size h in (simp f, simp f, simp f)
 

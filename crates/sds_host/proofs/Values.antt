@@ -6,22 +6,21 @@ use mathlib.Core.List.{List}
 use lib.ListN.{length}
 use lib.Dec.{eqb}
 use borrow.Author.Tests.{eq-eqb, ne_eqb}
-use Rattle.collect.specs.declared.Value.TheVariants.{Nothing}
-use Rattle.collect.specs.declared.Collected.{Collected}
+use Rattle.std.specs.Prelude.{None}
 use Rattle.collect.specs.declared.Tally.{Tally}
-use Rattle.collect.specs.Step.{gives, answer_of, work_of}
+use Rattle.collect.specs.Step.{Answer, gives, answer_of, work_of}
 use Rattle.collect.specs.Tally.{tallied}
 use Rattle.sds_host.specs.Border.{value_size, value_bytes, border_answer, border_work, border_value, BorderCollected}
 
 module _ (r work value : List ℕ) (t : Tally) where
   -- a value buffer of another length
-  pub no_value : (length value ≡ value_size → ⊥) → (t' : Tally) → t' ≡ tallied t (gives 1 Nothing false) → BorderCollected r work value t 1 work value t'
+  pub no_value : (length value ≡ value_size → ⊥) → (t' : Tally) → t' ≡ tallied t (gives 1 None false) → BorderCollected r work value t 1 work value t'
   unfolding border_answer border_work border_value
   no_value h t' e =
       let f = ne_eqb (length value) value_size h in
       record { answers = simp f; leaves = simp f; shows = simp f; counts = e ∙ simp f }
 
-  module _ (eight : length value ≡ value_size) (c : Collected) (ce : c ≡ answer_of r work) (work' : List ℕ) (we : work' ≡ work_of r work) (t' : Tally) (te : t' ≡ tallied t c) where
+  module _ (eight : length value ≡ value_size) (c : Answer) (ce : c ≡ answer_of r work) (work' : List ℕ) (we : work' ≡ work_of r work) (t' : Tally) (te : t' ≡ tallied t c) where
     abbrev is_eight : eqb (length value) value_size ≡ true
     is_eight = eq-eqb (length value) value_size eight
 

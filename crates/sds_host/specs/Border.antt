@@ -1,13 +1,13 @@
 -- What C sees of captures and of the collector: lines, records, values and a tally, lent (include/sds_host.h).
-use Rattle.std.specs.Prelude.{ℕ, ◌+◌, ◌*◌, ◌/◌, ◌%◌, ◌≡◌, false, cond, List, [], ◌∷◌, length, eqb}
+use Rattle.std.specs.Prelude.{ℕ, ◌+◌, ◌*◌, ◌/◌, ◌%◌, ◌≡◌, false, cond, List, [], ◌∷◌, length, eqb, Option, Some, None}
 use Rattle.codec.specs.Names.{frame_size}
 use Rattle.candump.specs.Importing.{import_of}
 use Rattle.candump.specs.Exporting.{put_of}
 use Rattle.collect.specs.declared.Value.{Value}
-use Rattle.collect.specs.declared.Value.TheVariants.{Nothing, Whole, Complete}
-use Rattle.collect.specs.declared.Collected.{Collected}
+use Rattle.collect.specs.declared.Place.{Place}
+use Rattle.collect.specs.declared.Place.TheVariants.{Frame, Work}
 use Rattle.collect.specs.declared.Tally.{Tally}
-use Rattle.collect.specs.Step.{gives, answer_of, work_of, place_of}
+use Rattle.collect.specs.Step.{Answer, gives, answer_of, work_of, place_of}
 use Rattle.collect.specs.Tally.{tallied}
 
 -- "a record buffer not of ten bytes is 5, asked before all else"
@@ -32,14 +32,17 @@ value_size = 8
 abbrev pub value_at : (kind guest object id len place : ℕ) → List ℕ
 value_at kind guest object id len place = kind ∷ guest ∷ object ∷ id ∷ len ∷ 0 ∷ (place % 256) ∷ (place / 256 % 256) ∷ []
 
-unfoldable pub value_bytes : Value → List ℕ
-value_bytes Nothing = value_at 0 0 0 0 0 0
-value_bytes (Whole guest object id n) = value_at 1 guest object id n (place_of (Whole guest object id n))
-value_bytes (Complete guest object id n) = value_at 2 guest object id n (place_of (Complete guest object id n))
+abbrev pub kind_of : Place → ℕ
+kind_of Frame = 1
+kind_of Work = 2
+
+unfoldable pub value_bytes : Option Value → List ℕ
+value_bytes None = value_at 0 0 0 0 0 0
+value_bytes (Some v) = value_at (kind_of v.place) v.guest v.object v.id v.len (place_of (Some v))
 
 -- a value buffer not of 8 bytes is 1 too, and nothing alters then but the tally
-unfoldable pub border_answer : (r work value : List ℕ) → Collected
-border_answer r work value = cond (eqb (length value) value_size) (answer_of r work) (gives 1 Nothing false)
+unfoldable pub border_answer : (r work value : List ℕ) → Answer
+border_answer r work value = cond (eqb (length value) value_size) (answer_of r work) (gives 1 None false)
 
 unfoldable pub border_work : (r work value : List ℕ) → List ℕ
 border_work r work value = cond (eqb (length value) value_size) (work_of r work) work

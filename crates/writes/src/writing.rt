@@ -2,6 +2,7 @@
 ghost use Rattle.std.specs.Prelude.{◌≡◌};
 ghost use Rattle.writes.specs.Code.{stored_data, stored_state, stored_joined, kept_piece};
 
+use join::Piece;
 use octets::Data;
 use table::Attribute;
 
@@ -47,6 +48,12 @@ pub fn store_joined(to: Attribute, number: u8, body: Data, work: &[u8], store: &
     }
     let places = octets::places_of(body);
     let n = body.len as usize;
+    let piece = Piece {
+        key: [to.id],
+        total: to.len,
+        number,
+        body: &places[0..n],
+    };
     join::join_into(
         work,
         join::place_of(to.object),
@@ -65,6 +72,12 @@ pub fn keep_piece(to: Attribute, number: u8, total: u8, body: Data, work: &mut [
     }
     let places = octets::places_of(body);
     let n = body.len as usize;
+    let piece = Piece {
+        key: [to.id],
+        total,
+        number,
+        body: &places[0..n],
+    };
     join::keep(
         work,
         join::place_of(to.object),

@@ -1,5 +1,5 @@
 use Prim.Native.Nat.{◌-◌}
-use mathlib.Core.Path.{◌≡◌, ◌∙◌}
+use mathlib.Core.Path.{◌≡◌, refl}
 use native.Mathlib.Omega.{arith}
 use borrow.Author.Tests.{ne_eqb}
 use Rattle.collect.specs.Step.{answer_to}
@@ -10,7 +10,7 @@ pub returns-then-h-le2 : goal.returns-then-h-le2
 unfolding answer_to whole_judged
 returns-then-h-le2 c =
     let none : c.args.h.dlc - 2 ≡ 0 = omega (arith, c.if-h-le2.true) in
-    λ work. c.refused.ensures ∙ rw none
+    λ work. rw none refl
 
 pub returns : goal.returns
 unfolding answer_to whole_judged

@@ -1,14 +1,15 @@
+use mathlib.Core.Path.{refl, ◌∙◌}
 use Rattle.collect.specs.Step.{part_of}
 use Rattle.collect.proofs.showing.part_of.Goals as goal
 
-pub returns-in-Nothing : goal.returns-in-Nothing
+pub returns-in_default : goal.returns-in_default
 unfolding part_of
-returns-in-Nothing c = cc
+returns-in_default c = rw c.in_default.is refl
 
-pub returns-in-Whole : goal.returns-in-Whole
+pub returns-in-Frame : goal.returns-in-Frame
 unfolding part_of
-returns-in-Whole c = rw c.in-Whole.is c.cut.ensures
+returns-in-Frame c = c.cut.ensures ∙ rw (c.in-Some.is, c.in-Frame.is) refl
 
-pub returns-in-Complete : goal.returns-in-Complete
+pub returns-in-Work : goal.returns-in-Work
 unfolding part_of
-returns-in-Complete c = rw (c.in-Complete.is, ← c.data_place.ensures) c.cut-in-Complete.ensures
+returns-in-Work c = c.cut-in-Work.ensures ∙ rw (c.in-Some.is, c.in-Work.is, c.data_place.ensures) refl
