@@ -1,19 +1,24 @@
 -- What a buffer holds after bytes were put behind those that it held.
 use Prim.Native.Nat.{ℕ, ◌+◌, ◌-◌, ◌%◌, ◌<◌, ◌≤◌, min}
-use mathlib.Core.Path.{◌≡◌, refl, sym, ap, ◌∙◌}
-use mathlib.Core.List.{List, [], ◌∷◌, ◌++◌, append-nil}
+use mathlib.Core.Path.{◌≡◌, refl, sym, ap, ◌∙◌, subst}
+use mathlib.Core.Bool.{true, false, true≢false}
+use mathlib.Core.List.{List, [], ◌∷◌, ◌++◌, append-nil, append_assoc}
 use native.Mathlib.Omega.{arith}
-use lib.ListN.{length, take, drop, replicate, length-append, length-take}
+use lib.ListN.{length, take, drop, replicate, length-append, length-take, drop_of_length-le}
 use lib.Seq.{take-nil, take_all, take_at, take-append-le, take-append-add, drop-append-add, length-take-le}
 use lib.Dec.{ltb}
-use borrow.Author.Tests.{ltb-true, ltb-false, le-leb, lt-leb, lt-ltb, le-ltb}
+use borrow.Author.Tests.{ltb-true, ltb-false}
+use Rattle.std.specs.Prelude.{Option, Some, None, Result, Ok, Err, IfSome, OnOk, is_ok}
+use Rattle.std.specs.List.{FoldsTo, concat}
+use Rattle.std.specs.Fmt.{WritesInCalls, WritesText}
+use Rattle.std.proofs.lemmas.List.{take-append-drop}
 use Rattle.laws.specs.Bytes.{padded}
 use Rattle.laws.specs.Put.{put}
 use Rattle.laws.proofs.Bytes.{length_padded, drop_zeros}
 use Rattle.laws.proofs.Put.{put_nothing, part_back}
 use Rattle.laws.proofs.Tests.{split}
-use Rattle.pipes.specs.declared.Complaint.{Complaint}
-use Rattle.pipes.specs.Buffers.{fitting, appended, appended_count, sent_from, complaint_room, complaint_text, complaint_of}
+use Rattle.pipes.specs.declared.buffer.Buffer.{Buffer}
+use Rattle.pipes.specs.Buffers.{fitting, appended, appended_count, lacks_room, sent_from, Added, complaint_room, complaint_text, complaint_of}
 
 take_min : (m : ℕ) (p : List ℕ) → take (min (length p) m) p ≡ take m p
 take_min m p =
@@ -26,29 +31,12 @@ take_min m p =
     let e : min (length p) m ≡ m = omega arith in
     rw e)
 
-pub front_of : (u : ℕ) (b : List ℕ) (n : ℕ) → n ≡ min u (length b) → take n b ≡ take u b
-front_of u b n e =
-    split (ltb (length b) u)
-    (λ t.
-    let h = ltb-true (length b) u t in
-    take_all n b (omega arith) ∙ sym (take_all u b (omega arith)))
-    (λ f.
-    let h = ltb-false (length b) u f in
-    let q : n ≡ u = omega arith in
-    rw q)
-
 module _ (p : List ℕ) (u : ℕ) (b : List ℕ) where
   abbrev Left : ℕ → List ℕ → Type 0
   Left n x = (n ≡ appended_count p u b) × (x ≡ appended p u b)
 
-  pub no_room : length b ≤ u → Left u b
-  unfolding appended_count appended
-  no_room h =
-      let none : length b - u ≡ 0 = omega arith in
-      (omega arith, rw none (sym (put_nothing b u)))
-
-  -- a part of the buffer was lent for so many bytes, and came back with them
-  pub put_in : u ≤ length b → (n : ℕ) → n ≡ min (length p) (length b - u) → (x : List ℕ)
+  -- a part of the buffer was lent for so many bytes, and came back with them; behind its end there is none
+  put_in : u ≤ length b → (n : ℕ) → n ≡ min (length p) (length b - u) → (x : List ℕ)
       → x ≡ take n p
       → Left (u + n) (take u b ++ (x ++ drop (u + n - u) (drop u b)))
   unfolding appended_count appended
@@ -58,8 +46,27 @@ module _ (p : List ℕ) (u : ℕ) (b : List ℕ) where
       let same : take n p ≡ fitting p u b = ap (λ (j : ℕ). take j p) e ∙ take_min (length b - u) p in
       (omega arith, rw k (part_back b x u n (ap length f ∙ m) ∙ ap (put b u) (f ∙ same)))
 
-  pub counted : (n : ℕ) → n ≡ min (length p) (length b - u) → n ≡ length (take n p)
-  counted n e = sym (length-take-le n p (omega arith))
+  put_none : length b < u → (x : List ℕ) → x ≡ [] → (n : ℕ) → n ≡ 0 → Left (u + n) (take (length b) b ++ (x ++ drop n (drop (length b) b)))
+  unfolding appended_count appended
+  put_none h x e n z =
+      let none : length b - u ≡ 0 = omega arith in
+      let past : drop (length b) b ≡ [] = drop_of_length-le b {i = length b} (omega arith) in
+      (omega arith, rw (e, z, none, past, take_all (length b) b (omega arith), append-nil b) (sym (put_nothing b u)))
+
+  pub put_behind : (start n : ℕ) → start ≡ min u (length b) → n ≡ min (length p) (length b - start) → (x : List ℕ) → x ≡ take n p
+      → Left (u + n) (take start b ++ (x ++ drop (start + n - start) (drop start b)))
+  put_behind start n s e x f =
+      split (ltb (length b) u)
+      (λ t.
+      let h = ltb-true (length b) u t in
+      let at : start ≡ length b = omega arith in
+      let z : n ≡ 0 = omega arith in
+      let k : length b + n - length b ≡ n = omega arith in
+      rw (at, k) (put_none h x (f ∙ ap (λ (j : ℕ). take j p) z) n z))
+      (λ g.
+      let h = ltb-false (length b) u g in
+      let at : start ≡ u = omega arith in
+      rw at (put_in h n (e ∙ rw at refl) x f))
 
 -- ---- parts one behind the other over zeros
 
@@ -82,10 +89,10 @@ pub record Filled (room : ℕ) (t : List ℕ) (u : ℕ) (b : List ℕ) : Type 0 
   pub used : u ≡ length (take room t)
   pub holds : b ≡ padded room (take room t)
 
-pub filled_none : (room : ℕ) → Filled room [] 0 (replicate room 0)
-filled_none room =
+pub filled_none : (room u : ℕ) (b : List ℕ) → (u ≡ 0) × (b ≡ replicate room 0) → Filled room [] u b
+filled_none room u b n =
     let e : room - 0 ≡ room = omega arith in
-    record { used = rw (take-nil {A = ℕ} room); holds = rw (take-nil {A = ℕ} room, e) }
+    rw (n.0, n.1) record { used = rw (take-nil {A = ℕ} room); holds = rw (take-nil {A = ℕ} room, e) }
 
 pub filled_more : (room : ℕ) (t p : List ℕ) (u : ℕ) (b : List ℕ) → Filled room t u b → (n : ℕ) (x : List ℕ)
     → (n ≡ appended_count p u b) × (x ≡ appended p u b) → Filled room (t ++ p) n x
@@ -112,30 +119,73 @@ filled_more room t p u b f n x e =
 
 pub complaint_made : (kind place : List ℕ) (number : ℕ) (rule : List ℕ) {n : ℕ} {x : List ℕ}
     → Filled complaint_room (kind ++ (32 ∷ []) ++ place ++ (58 ∷ 32 ∷ (48 + number % 10) ∷ 32 ∷ []) ++ rule ++ (10 ∷ [])) n x
-    → record { len = n; text = x } ≡ complaint_of kind place number rule
+    → record { bytes = x; used = n } ≡ complaint_of kind place number rule
 unfolding complaint_of complaint_text
 complaint_made kind place number rule f = rw (f.used, f.holds)
 
 -- as many bytes as a complaint says are its text
-pub complaint_read : (kind place : List ℕ) (number : ℕ) (rule : List ℕ) (c : Complaint) → c ≡ complaint_of kind place number rule
-    → take c.len c.text ≡ complaint_text kind place number rule
+pub complaint_read : (kind place : List ℕ) (number : ℕ) (rule : List ℕ) (c : Buffer complaint_room) → c ≡ complaint_of kind place number rule
+    → take c.used c.bytes ≡ complaint_text kind place number rule
 unfolding complaint_of
 complaint_read kind place number rule c e =
     let t = complaint_text kind place number rule in
     let zeros : List ℕ = replicate (complaint_room - length t) 0 in
     rw e (take_at t zeros (length t) refl)
 
+-- ---- what is displayed into a buffer, call by call
+
+filled_calls : (room : ℕ) (t : List ℕ) (parts : List (List ℕ)) (w v : Buffer room) → Filled room t w.used w.bytes → FoldsTo Added w parts v
+    → Filled room (t ++ concat parts) v.used v.bytes
+filled_calls room t [] w v f e = rw (append-nil t, ← e) f
+filled_calls room t (p ∷ parts) w v f (x, step, rest) =
+    rw (sym (append_assoc t p (concat parts))) (filled_calls room (t ++ p) parts x v (filled_more room t p w.used w.bytes f x.used x.bytes step) rest)
+
+filled_words : (bs : List ℕ) (w v : Buffer complaint_room) → (w.used ≡ 0) × (w.bytes ≡ replicate complaint_room 0) → WritesInCalls Added w bs v
+    → take v.used v.bytes ≡ take complaint_room bs
+filled_words bs w v n x =
+    let f = filled_calls complaint_room [] x.parts w v (filled_none complaint_room w.used w.bytes n) x.calls in
+    let l = take complaint_room bs in
+    let u : v.used ≡ length l = f.used ∙ ap (λ (t : List ℕ). length (take complaint_room t)) x.whole in
+    let b : v.bytes ≡ padded complaint_room l = f.holds ∙ ap (λ (t : List ℕ). padded complaint_room (take complaint_room t)) x.whole in
+    let zeros : List ℕ = replicate (complaint_room - length l) 0 in
+    rw (u, b) (take_at l zeros (length l) refl)
+
+pub displayed : {T E : Type 0} (o : Option (List ℕ)) (w v : Buffer complaint_room) (r : Result T E) → (w.used ≡ 0) × (w.bytes ≡ replicate complaint_room 0)
+    → is_ok r ≡ true → OnOk r (WritesText Added w o v) → IfSome o (λ words. take v.used v.bytes ≡ take complaint_room words)
+displayed None w v r n k x = tt
+displayed (Some bs) w v (Ok y) n k x = filled_words bs w v n x
+displayed (Some bs) w v (Err y) n k x = absurd (true≢false (sym k))
+
+-- words that are cut to the room beforehand make the same line
+cut_twice : (n : ℕ) (a t e : List ℕ) → take n (a ++ take n t ++ e) ≡ take n (a ++ t ++ e)
+cut_twice n a t e =
+    split (ltb (length t) n)
+    (λ h. let k = ltb-true (length t) n h in ap (λ (x : List ℕ). take n (a ++ x ++ e)) (take_all n t (omega arith)))
+    (λ h.
+    let k = ltb-false (length t) n h in
+    let m : length (take n t) ≡ n = length-take-le n t k in
+    let l : n ≤ length (a ++ take n t) = rw (length-append a (take n t)) (omega arith) in
+    let l' : n ≤ length (a ++ t) = rw (length-append a t) (omega arith) in
+    let whole : a ++ t ≡ a ++ take n t ++ drop n t = ap (λ (x : List ℕ). a ++ x) (sym (take-append-drop n t)) ∙ sym (append_assoc a (take n t) (drop n t)) in
+    take-append-le n (a ++ take n t) e l
+    ∙ sym (take-append-le n (a ++ take n t) (drop n t) l)
+    ∙ ap (take n) (sym whole)
+    ∙ sym (take-append-le n (a ++ t) e l'))
+
+pub told : (kind place : List ℕ) (number : ℕ) (P : List ℕ → Type 0) (o : Option (List ℕ)) (held : List ℕ) → IfSome o (λ words. held ≡ take complaint_room words)
+    → P (complaint_text kind place number held) → IfSome o (λ words. P (complaint_text kind place number words))
+unfolding complaint_text
+told kind place number P None held h p = tt
+told kind place number P (Some words) held h p =
+    subst P (rw h (cut_twice complaint_room (kind ++ (32 ∷ []) ++ place ++ (58 ∷ 32 ∷ (48 + number % 10) ∷ 32 ∷ [])) words (10 ∷ []))) p
+
 -- ---- what waits is written where there is no room
 
 module _ (p : List ℕ) (u : ℕ) (b : List ℕ) where
-  pub from_there : length b < u → sent_from p u b ≡ u
+  pub from_front : lacks_room p u b ≡ true → sent_from p u b ≡ 0
   unfolding sent_from
-  from_there h = simp (lt-leb u (length b) h)
+  from_front h = simp h
 
-  pub from_front : u ≤ length b → length b - u < length p → sent_from p u b ≡ 0
+  pub from_behind : lacks_room p u b ≡ false → sent_from p u b ≡ u
   unfolding sent_from
-  from_front h k = simp (le-leb u (length b) h, lt-ltb (length b - u) (length p) k)
-
-  pub from_behind : u ≤ length b → length p ≤ length b - u → sent_from p u b ≡ u
-  unfolding sent_from
-  from_behind h k = simp (le-leb u (length b) h, le-ltb (length b - u) (length p) k)
+  from_behind h = simp h

@@ -1,18 +1,25 @@
 -- WHAT THE CRATE PROMISES of its buffers and its complaints, for every input.
-use Prim.Native.Nat.{ℕ, ◌+◌, ◌-◌, ◌≤◌}
+use Prim.Native.Nat.{ℕ, ◌+◌, ◌-◌, ◌*◌, ◌^◌, ◌<◌, ◌≤◌}
 use mathlib.Core.Path.{◌≡◌, refl, sym, ◌∙◌}
-use mathlib.Core.List.{List, ◌++◌}
+use mathlib.Core.Logic.{∥∥₁_elim, ∥∥₁_prop}
+use mathlib.Core.List.Memᴰ
+use mathlib.Core.List.{List, [], ◌++◌, Memᴰ}
+use contract.Lifetimes.{Lfts}
+use prog.Memory.{up}
+use Rattle.std.specs.Borrow.{RattleType}
 use native.Mathlib.Omega.{arith}
 use lib.ListN.{length, take}
 use lib.Seq.{take_all}
 use Rattle.laws.proofs.Put.{take_put}
 use Rattle.pipes.specs.Buffers.{appended, appended_count}
-use Rattle.pipes.proofs.front.Reads as front
-use Rattle.pipes.proofs.append.Reads as append
-use Rattle.pipes.proofs.send.Reads as send
-use Rattle.pipes.proofs.next.Reads as next
-use Rattle.pipes.proofs.complaint_of.Reads as complaint-of
-use Rattle.pipes.proofs.tell.Reads as tell
+use Rattle.pipes.proofs.buffer.Buffer.new.Reads as new
+use Rattle.pipes.proofs.buffer.Buffer.held.Reads as held
+use Rattle.pipes.proofs.buffer.Buffer.append.Reads as append
+use Rattle.pipes.proofs.work.Output.send.Reads as send
+use Rattle.pipes.proofs.work.next.Reads as next
+use Rattle.pipes.proofs.work.run.Reads as run
+use Rattle.pipes.proofs.complaint.complaint_of.Reads as complaint-of
+use Rattle.pipes.proofs.complaint.tell.Reads as tell
 
 -- bytes for which there is room stand behind those that were held
 pub appended_front : (p : List ℕ) (u : ℕ) (b : List ℕ) → u + length p ≤ length b
@@ -24,16 +31,21 @@ appended_front p u b h =
 
 -- ---- determination: two outcomes that meet a function's contract are equal
 
-pub front_determined : (κs : _) (args : _) (r r' : _) (s s' : _) → front.Post κs args r s → front.Post κs args r' s' → r.now ≡ r'.now
-front_determined κs args r r' s s' p q = p ∙ sym q
+module _ (n : _) (fits : _) (κs : _) (args : _) (r r' : _) (s s' : _) where
+  pub new_determined : new.Post n fits κs args r s → new.Post n fits κs args r' s' → (r.used ≡ r'.used) × (r.bytes ≡ r'.bytes)
+  new_determined p q = (p.0 ∙ sym q.0, p.1 ∙ sym q.1)
 
-pub append_determined : (κs : _) (args : _) (r r' : _) (s s' : _) → append.Post κs args r s → append.Post κs args r' s'
-    → (r ≡ r') × (s.1.1.0.now ≡ s'.1.1.0.now)
-append_determined κs args r r' s s' p q = (p.0 ∙ sym q.0, p.1 ∙ sym q.1)
+module _ (n : _) (fits : _) (κs : _) (args : _) (r r' : _) (s s' : _) where
+  pub held_determined : held.Post n fits κs args r s → held.Post n fits κs args r' s' → r.now ≡ r'.now
+  held_determined p q = p ∙ sym q
+
+module _ (n : _) (fits : _) (κs : _) (args : _) (r r' : _) (s s' : _) where
+  pub append_determined : append.Post n fits κs args r s → append.Post n fits κs args r' s' → (s.0.now.used ≡ s'.0.now.used) × (s.0.now.bytes ≡ s'.0.now.bytes)
+  append_determined p q = (p.0 ∙ sym q.0, p.1 ∙ sym q.1)
 
 pub send_determined : (κs : _) (args : _) (r r' : _) (s s' : _) → send.Post κs args r s → send.Post κs args r' s'
-    → (r ≡ r') × (s.1.1.1.0.now ≡ s'.1.1.1.0.now)
-send_determined κs args r r' s s' p q = (p.0 ∙ sym q.0, p.1 ∙ sym q.1)
+    → (s.0.now.waiting.used ≡ s'.0.now.waiting.used) × (s.0.now.waiting.bytes ≡ s'.0.now.waiting.bytes) × (s.0.now.to ≡ s'.0.now.to)
+send_determined κs args r r' s s' p q = (p.0 ∙ sym q.0, p.1 ∙ sym q.1, p.2 ∙ sym q.2)
 
 pub next_determined : (κs : _) (args : _) (r r' : _) (s s' : _) → next.Post κs args r s → next.Post κs args r' s' → r ≡ r'
 next_determined κs args r r' s s' p q = p ∙ sym q
@@ -41,17 +53,32 @@ next_determined κs args r r' s s' p q = p ∙ sym q
 pub complaint_determined : (κs : _) (args : _) (r r' : _) (s s' : _) → complaint-of.Post κs args r s → complaint-of.Post κs args r' s' → r ≡ r'
 complaint_determined κs args r r' s s' p q = p ∙ sym q
 
--- it gives nothing back, and is lent nothing that it may alter
-pub tell_determined : (κs : _) (args : _) (r r' : _) (s s' : _) → tell.Post κs args r s → tell.Post κs args r' s' → r ≡ r'
-tell_determined κs args r r' s s' p q = refl
+-- these give nothing back, and are lent nothing that they may alter
+module _ (a b c d : _) (κs : _) (args : _) (r r' : _) (s s' : _) where
+  pub tell_determined : tell.Post a b c d κs args r s → tell.Post a b c d κs args r' s' → r ≡ r'
+  tell_determined p q = refl
+
+module _ (a b c d e : _) (κs : _) (args : _) (r r' : _) (s s' : _) where
+  pub run_determined : run.Post a b c d e κs args r s → run.Post a b c d e κs args r' s' → r ≡ r'
+  run_determined p q = refl
 
 -- ---- nothing is asked of a caller
 
-pub front_asks_nothing : (κs : _) (args : _) → front.Asked κs args
-front_asks_nothing κs args = tt
+-- (of a buffer's size the language asks, as of each type, that so many bytes can stand in memory)
+no_lifetimes : (κ : List ℕ) (x : ℕ) → ∥ Memᴰ x [] ∥₁ → ∥ Memᴰ x κ ∥₁
+no_lifetimes κ x m = ∥∥₁_elim m ∥∥₁_prop (λ d. absurd (Memᴰ.not-nil d))
 
-pub append_asks_nothing : (κs : _) (args : _) → append.Asked κs args
-append_asks_nothing κs args = tt
+in_memory : (n : ℕ) → n < 2 ^ 62 → up 8 (up 8 (0 + n * 1) + 8) < 2 ^ 63
+in_memory n h = omega arith
+
+pub new_asks_nothing : (n : _) (fits : _) (κs : _) (args : _) → n < 2 ^ 62 → new.Asked n fits κs args
+new_asks_nothing n fits κs args h = (no_lifetimes _, in_memory n h)
+
+pub held_asks_nothing : (n : _) (fits : _) (κs : _) (args : _) → n < 2 ^ 62 → held.Asked n fits κs args
+held_asks_nothing n fits κs args h = (no_lifetimes _, in_memory n h)
+
+pub append_asks_nothing : (n : _) (fits : _) (κs : _) (args : _) → n < 2 ^ 62 → append.Asked n fits κs args
+append_asks_nothing n fits κs args h = (no_lifetimes _, in_memory n h)
 
 pub send_asks_nothing : (κs : _) (args : _) → send.Asked κs args
 send_asks_nothing κs args = tt
@@ -62,5 +89,9 @@ next_asks_nothing κs args = tt
 pub complaint_asks_nothing : (κs : _) (args : _) → complaint-of.Asked κs args
 complaint_asks_nothing κs args = tt
 
-pub tell_asks_nothing : (κs : _) (args : _) → tell.Asked κs args
-tell_asks_nothing κs args = tt
+-- of a type that a caller brings each call asks that its lifetimes last as long, which the language sees to, and here no more
+pub tell_asks_nothing : (a : RattleType) (b c d : _) (κs : Lfts 3) (args : _) → ((x : ℕ) → ∥ Memᴰ x a.lives ∥₁ → ∥ Memᴰ x κs.1.1.0 ∥₁) → tell.Asked a b c d κs args
+tell_asks_nothing a b c d κs args h = h
+
+pub run_asks_nothing : (a : RattleType) (b c d e : _) (κs : Lfts 1) (args : _) → ((x : ℕ) → ∥ Memᴰ x a.lives ∥₁ → ∥ Memᴰ x κs.0 ∥₁) → run.Asked a b c d e κs args
+run_asks_nothing a b c d e κs args h = h

@@ -1,6 +1,6 @@
 // Buffers that are filled from the front.
-ghost use Rattle.std.specs.Prelude.{◌≡◌, take, replicate};
-ghost use Rattle.pipes.specs.Buffers.{appended, appended_count};
+ghost use Rattle.std.specs.Prelude.{◌≡◌, take, replicate, Ok, IsOk};
+ghost use Rattle.pipes.specs.Buffers.{appended, appended_count, lacks_room, Added};
 
 use std::fmt;
 
@@ -30,13 +30,34 @@ impl<const N: usize> Buffer<N> {
         &self.bytes[..n]
     }
 
+    // Whether it has no room for these bytes behind those that it holds.
+    pub(crate) fn lacks_room(&self, part: &[u8]) -> bool
+        ensures { result ≡ lacks_room part.now self.now.used self.now.bytes }
+    {
+        self.used <= N && N - self.used < part.len()
+    }
+
     // Puts bytes behind those that it holds, as many as it has room for.
     pub fn append(&mut self, part: &[u8])
-        ensures { (self.new.used ≡ appended_count part.now self.old.used self.old.bytes) × (self.new.bytes ≡ appended part.now self.old.used self.old.bytes) }
+        ensures { Added self.old part.now self.new }
     {
         let start = self.used.min(N);
         let n = part.len().min(N - start);
-        self.bytes[start..start + n].copy_from_slice(&part[..n]);
+        let bytes = &mut self.bytes[..];
+        bytes[start..start + n].copy_from_slice(&part[..n]);
         self.used += n;
+    }
+}
+
+// What has no room is cut off.
+impl<const N: usize> fmt::Write for Buffer<N> {
+    ghost write_str_gives = { Added };
+
+    fn write_str(&mut self, s: &str) -> fmt::Result
+        ensures ok { IsOk result → Added self.old s.now self.new }
+        ensures always { (result ≡ Ok tt) × Added self.old s.now self.new }
+    {
+        self.append(s.as_bytes());
+        Ok(())
     }
 }

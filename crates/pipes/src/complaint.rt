@@ -1,9 +1,10 @@
 // The line that tells what was refused.
-ghost use Rattle.std.specs.Prelude.{◌≡◌, decimal, OnOk};
+ghost use Rattle.std.specs.Prelude.{◌≡◌, decimal, OnOk, IfSome};
 ghost use Rattle.std.specs.Io.KnownBytes.{Appends};
 ghost use Rattle.pipes.specs.Buffers.{complaint_text, complaint_of};
 
 use crate::Buffer;
+use std::fmt::{Display, Write as _};
 use std::io;
 use std::io::{Stderr, Write};
 
@@ -24,23 +25,27 @@ pub fn complaint_of(kind: &[u8], place: &[u8], number: u8, rule: &[u8]) -> Buffe
     text
 }
 
-// Writes the line that tells what was refused, with the place in digits.
-fn write_complaint<W: Write>(
+// Writes the line that tells what was refused, with the place in digits and the rule as it is displayed.
+fn write_complaint<W: Write, R: Display>(
     to: &mut W,
     kind: &[u8],
     place: u64,
     number: u8,
-    rule: &[u8],
+    rule: &R,
 ) -> io::Result<()>
-    ensures { OnOk result (Appends (W.contents to.old) (W.contents to.new) (complaint_text kind.now (decimal place) number rule.now)) }
+    ensures { IfSome (R.output rule.now) (λ words. OnOk result (Appends (W.contents to.old) (W.contents to.new) (complaint_text kind.now (decimal place) number words))) }
 {
     let mut digits = itoa::Buffer::new();
-    let line = complaint_of(kind, digits.format(place).as_bytes(), number, rule);
+    let mut words = Buffer::<COMPLAINT_ROOM>::new();
+    if write!(words, "{rule}").is_err() {
+        return Err(io::Error::from(io::ErrorKind::Other));
+    }
+    let line = complaint_of(kind, digits.format(place).as_bytes(), number, words.held());
     to.write_all(line.held())
 }
 
 // Tells on standard error what was refused. Where that cannot be written nobody is told.
-pub fn tell(to: Stderr, kind: &[u8], place: u64, number: u8, rule: &[u8]) {
+pub fn tell(to: Stderr, kind: &[u8], place: u64, number: u8, rule: &impl Display) {
     let mut errors = to;
     let _ = write_complaint(&mut errors, kind, place, number, rule);
 }

@@ -19,11 +19,11 @@ pub struct Output {
 impl Output {
     // Puts bytes behind those that wait, which are written first where there is no room for more. That they could not be written shows where the next are.
     pub fn send(&mut self, part: &[u8])
-        ensures used { self.new.waiting.used ≡ appended_count part.now (sent_from part.now self.old.waiting.used self.old.waiting.bytes) self.old.waiting.bytes }
-        ensures bytes { self.new.waiting.bytes ≡ appended part.now (sent_from part.now self.old.waiting.used self.old.waiting.bytes) self.old.waiting.bytes }
+        ensures { (self.new.waiting.used ≡ appended_count part.now (sent_from part.now self.old.waiting.used self.old.waiting.bytes) self.old.waiting.bytes)
+            × (self.new.waiting.bytes ≡ appended part.now (sent_from part.now self.old.waiting.used self.old.waiting.bytes) self.old.waiting.bytes)
+            × (self.new.to ≡ self.old.to) }
     {
-        let used = self.waiting.used;
-        if used <= BLOCK && BLOCK - used < part.len() {
+        if self.waiting.lacks_room(part) {
             let _ = self.flush();
         }
         self.waiting.append(part);
@@ -31,9 +31,10 @@ impl Output {
 
     // Writes what waits.
     fn flush(&mut self) -> io::Result<()>
-        ensures { (self.new.waiting.used ≡ 0) × (self.new.waiting.bytes ≡ self.old.waiting.bytes) }
+        ensures { (self.new.waiting.used ≡ 0) × (self.new.waiting.bytes ≡ self.old.waiting.bytes) × (self.new.to ≡ self.old.to) }
     {
-        let done = self.to.write_all(self.waiting.held());
+        let mut output = self.to;
+        let done = output.write_all(self.waiting.held());
         self.waiting.used = 0;
         done
     }
