@@ -1,7 +1,7 @@
 -- Data and the bytes that it holds: each is read off the other.
-use Prim.Native.Nat.{ℕ, zero, suc, ◌-◌, ◌<◌, ◌≤◌, min}
+use Prim.Native.Nat.{ℕ, ◌-◌, ◌≤◌, min}
 use mathlib.Core.Path.{◌≡◌, refl, sym, ap, ◌∙◌}
-use mathlib.Core.Bool.{true, false, cond, ◌&&◌, and-eq-true_iff, and_assoc, true-and, and-true, and-false}
+use mathlib.Core.Bool.{true, cond, and-eq-true_iff}
 use mathlib.Core.List.{List, [], ◌∷◌}
 use native.Mathlib.Omega.{arith}
 use lib.ListN.{length, get_or, take, drop, replicate, length-take}
@@ -9,8 +9,7 @@ use lib.Seq.{length-take-le, take_at, drop_at, get_or-take}
 use lib.Dec.{leb, ltb}
 use borrow.Author.Tests.{leb-true, le-leb}
 use Rattle.laws.specs.Bytes.{zeros, padded}
-use Rattle.laws.proofs.Bytes.{are_zeros, get_d_past, padded_take, byte_taken, zeros_at}
-use Rattle.laws.proofs.Tests.{split}
+use Rattle.laws.proofs.Bytes.{are_zeros, get_d_past, padded_take, byte_taken}
 use Rattle.octets.specs.declared.Data.{Data}
 use Rattle.octets.specs.Data.{most_data, data_of, places_of, bytes_of, tidy}
 
@@ -102,34 +101,3 @@ pub data_front : (l : List ℕ)
 unfolding data_of
 data_front l =
     simp (length-take most_data l, get_or-take most_data l 0 0 (omega arith), get_or-take most_data l 1 0 (omega arith), get_or-take most_data l 2 0 (omega arith), get_or-take most_data l 3 0 (omega arith), get_or-take most_data l 4 0 (omega arith), get_or-take most_data l 5 0 (omega arith))
-
--- ---- the places that the bytes leave unused
-
--- by the place at which they begin, and by one of them that is not 0
-pub rest_at : (k n : ℕ) (l : List ℕ) → n ≡ k → zeros (drop k l) ≡ true → zeros (drop n l) ≡ true
-rest_at k n l e z = rw e z
-
-pub rest_not : (k n : ℕ) (l : List ℕ) → n ≤ k → (get_or l k 0 ≡ 0 → ⊥) → zeros (drop n l) ≡ false
-rest_not k n l h f = split (zeros (drop n l)) (λ t. absurd (f (zeros_at n l k h t))) (λ e. e)
-
--- by threes: those that begin behind the first three, and those that begin among them
-pub rest_behind : (n a b c : ℕ) (l : List ℕ) → 3 ≤ n → drop n (a ∷ b ∷ c ∷ l) ≡ drop (n - 3) l
-rest_behind zero a b c l h = absurd (omega arith)
-rest_behind (suc zero) a b c l h = absurd (omega arith)
-rest_behind (suc (suc zero)) a b c l h = absurd (omega arith)
-rest_behind (suc (suc (suc n))) a b c l h =
-    let q : suc (suc (suc n)) - 3 ≡ n = omega arith in
-    rw q
-
-rest_among : (n a b c : ℕ) (l : List ℕ) → n ≤ 3 → zeros (drop n (a ∷ b ∷ c ∷ l)) ≡ zeros (drop n (a ∷ b ∷ c ∷ [])) && zeros l
-rest_among zero a b c l h = simp (and_assoc, true-and)
-rest_among (suc zero) a b c l h = simp (and_assoc, true-and)
-rest_among (suc (suc zero)) a b c l h = simp (and_assoc, true-and)
-rest_among (suc (suc (suc zero))) a b c l h = refl
-rest_among (suc (suc (suc (suc n)))) a b c l h = absurd (omega arith)
-
-pub rest_zero : (n a b c : ℕ) (l : List ℕ) → n < 3 → zeros l ≡ true → zeros (drop n (a ∷ b ∷ c ∷ l)) ≡ zeros (drop n (a ∷ b ∷ c ∷ []))
-rest_zero n a b c l h z = rest_among n a b c l (omega arith) ∙ rw z (and-true (zeros (drop n (a ∷ b ∷ c ∷ []))))
-
-pub rest_not_zero : (n a b c : ℕ) (l : List ℕ) → n < 3 → zeros l ≡ false → zeros (drop n (a ∷ b ∷ c ∷ l)) ≡ false
-rest_not_zero n a b c l h z = rest_among n a b c l (omega arith) ∙ rw z (and-false (zeros (drop n (a ∷ b ∷ c ∷ []))))

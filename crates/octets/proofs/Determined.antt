@@ -6,6 +6,7 @@ use Rattle.octets.proofs.bodies.places_of.Reads as places_of
 use Rattle.octets.proofs.bodies.is_tidy.Reads as is-tidy
 use Rattle.octets.proofs.copying.copy.Reads as copy
 use Rattle.octets.proofs.places.byte_at.Reads as byte_at
+use Rattle.octets.proofs.places.zeros.Reads as all-zeros
 
 -- ---- determination: two outcomes that meet a function's contract are equal
 
@@ -27,6 +28,9 @@ copy_determined κs args r r' s s' p q = p ∙ sym q
 pub byte_at_determined : (κs : _) (args : _) (r r' : _) (s s' : _) → byte_at.Post κs args r s → byte_at.Post κs args r' s' → r ≡ r'
 byte_at_determined κs args r r' s s' p q = p ∙ sym q
 
+pub zeros_determined : (κs : _) (args : _) (r r' : _) (s s' : _) → all-zeros.Post κs args r s → all-zeros.Post κs args r' s' → r ≡ r'
+zeros_determined κs args r r' s s' p q = p ∙ sym q
+
 -- ---- nothing is asked of a caller
 
 pub data_from_asks_nothing : (κs : _) (args : _) → data-from.Asked κs args
@@ -46,3 +50,6 @@ copy_asks_nothing κs args = tt
 
 pub byte_at_asks_nothing : (κs : _) (args : _) → byte_at.Asked κs args
 byte_at_asks_nothing κs args = tt
+
+pub zeros_asks_nothing : (κs : _) (args : _) → all-zeros.Asked κs args
+zeros_asks_nothing κs args = tt

@@ -1,3 +1,4 @@
 pub mod Copies
 pub mod Datas
+pub mod Cleared
 pub mod Determined

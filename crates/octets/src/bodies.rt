@@ -3,15 +3,16 @@ ghost use Rattle.std.specs.Prelude.{◌≡◌, [], ◌∷◌, min, take, drop};
 ghost use Rattle.laws.specs.Bytes.{zeros};
 ghost use Rattle.octets.specs.Data.{most_data, data_of, places_of, tidy};
 
-use crate::places::byte_at;
+use crate::places::{byte_at, zeros};
 use crate::{Data, MOST};
 
 fn least_of_six(n: usize) -> u8
     ensures { result ≡ min most_data n }
 {
-    if (MOST as usize) < n { MOST } else { n as u8 }
+    n.min(MOST as usize) as u8
 }
 
+#[tactic(auto, unfolding(crate::specs::Data::data_of))]
 pub fn no_data() -> Data
     ensures { result ≡ data_of [] }
 {
@@ -27,6 +28,7 @@ pub fn no_data() -> Data
 }
 
 // The bytes of a slice, of which at most six have room.
+#[tactic(auto, using(crate::proofs::Datas::data_front))]
 pub fn data_from(bytes: &[u8]) -> Data
     ensures { result ≡ data_of (take most_data bytes.now) }
 {
@@ -48,47 +50,11 @@ pub fn places_of(d: Data) -> [u8; 6]
     [d.b0, d.b1, d.b2, d.b3, d.b4, d.b5]
 }
 
-// Whether three places are 0 from the nth on: tested from the last one down.
-fn rest_of_three_is_zero(n: u8, a: u8, b: u8, c: u8) -> bool
-    ensures { result ≡ zeros (drop n (a ∷ b ∷ c ∷ [])) }
-{
-    if 3 <= n {
-        return true;
-    }
-    if c != 0 {
-        return false;
-    }
-    if n == 2 {
-        return true;
-    }
-    if b != 0 {
-        return false;
-    }
-    if n == 1 {
-        return true;
-    }
-    a == 0
-}
-
-// Whether each place that the bytes leave unused is 0.
-fn rest_is_zero(d: Data) -> bool
-    ensures { result ≡ zeros (drop d.len (places_of d)) }
-{
-    if 3 <= d.len {
-        return rest_of_three_is_zero(d.len - 3, d.b3, d.b4, d.b5);
-    }
-    if rest_of_three_is_zero(0, d.b3, d.b4, d.b5) {
-        return rest_of_three_is_zero(d.len, d.b0, d.b1, d.b2);
-    }
-    false
-}
-
 // Whether data has at most so many bytes, and 0 in each place that they leave unused.
+#[tactic(auto, unfolding(crate::specs::Data::tidy))]
 pub fn is_tidy(most: u8, d: Data) -> bool
     ensures { result ≡ tidy most d }
 {
-    if most < d.len {
-        return false;
-    }
-    rest_is_zero(d)
+    let places = places_of(d);
+    d.len <= most && zeros(places.get(d.len as usize..).unwrap_or(&[]))
 }

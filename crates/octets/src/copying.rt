@@ -5,12 +5,8 @@ ghost use Rattle.std.specs.Prelude.{◌≡◌, ◌++◌, take, drop, length};
 pub fn copy(from: &[u8], to: &mut [u8])
     ensures { to.new ≡ take (length to.old) from.now ++ drop (length from.now) to.old }
 {
-    let n = if from.len() < to.len() {
-        from.len()
-    } else {
-        to.len()
-    };
-    for i in 0..n {
+    // by index: what `to.iter_mut().zip(from)` writes was tried, and is not proved
+    for i in 0..from.len().min(to.len()) {
         to[i] = from[i];
     }
 }

@@ -7,7 +7,7 @@ mod places;
 
 pub use bodies::{data_from, is_tidy, no_data, places_of};
 pub use copying::copy;
-pub use places::byte_at;
+pub use places::{byte_at, zeros};
 
 // The most bytes that data has places for.
 pub const MOST: u8 = 6;
