@@ -5,7 +5,7 @@ ghost use Rattle.std.specs.Prelude.{◌≡◌, length};
 ghost use Rattle.candump.specs.Exporting.{put_left};
 ghost use Rattle.sds_host.specs.Border.{border_import_number, border_import, border_export_answer, value_size, value_at, value_bytes, BorderCollected};
 
-use collect::{Collected, Tally, Value};
+use collect::{Collected, Place, Refusal, Tally, Value};
 
 // The bytes of a value.
 pub const VALUE: usize = 8;
@@ -36,37 +36,34 @@ pub fn sds_export_record(frame: &[u8], line: &mut [u8]) -> u32
     }
 }
 
-// Puts the bytes of a value: kind, guest, object, ID, length, 0, and the place, its low byte first.
-fn put_value(kind: u8, guest: u8, object: u8, id: u8, len: u8, place: usize, value: &mut [u8])
-    requires { length value.old ≡ value_size }
-    ensures { value.new ≡ value_at kind guest object id len place }
+// The bytes of a value at a place: kind, guest, object, ID, length, 0, and the place, its low byte first.
+fn value_at(kind: u8, it: Value, place: usize) -> [u8; VALUE]
+    ensures { result ≡ value_at kind it.guest it.object it.id it.len place }
 {
     let low = (place % 256) as u8;
     let high = (place / 256 % 256) as u8;
-    let bytes = [kind, guest, object, id, len, 0, low, high];
-    octets::copy(&bytes, value);
+    [kind, it.guest, it.object, it.id, it.len, 0, low, high]
+}
+
+// The bytes of what is handed over, all 0 where nothing is.
+fn value_bytes(what: Option<Value>) -> [u8; VALUE]
+    ensures { result ≡ value_bytes what }
+{
+    let Some(it) = what else {
+        return [0; VALUE];
+    };
+    match it.place {
+        Place::Frame => value_at(1, it, codec::PAYLOAD_PLACE),
+        Place::Work => value_at(2, it, join::data_place(it.guest)),
+    }
 }
 
 // Shows what is handed over.
-fn show(what: Value, value: &mut [u8])
+fn show(what: Option<Value>, value: &mut [u8])
     requires { length value.old ≡ value_size }
     ensures { value.new ≡ value_bytes what }
 {
-    match what {
-        Value::Nothing => put_value(0, 0, 0, 0, 0, 0, value),
-        Value::Whole {
-            guest,
-            object,
-            id,
-            len,
-        } => put_value(1, guest, object, id, len, codec::PAYLOAD_PLACE, value),
-        Value::Complete {
-            guest,
-            object,
-            id,
-            len,
-        } => put_value(2, guest, object, id, len, join::data_place(guest), value),
-    }
+    octets::copy(&value_bytes(what), value);
 }
 
 // What a call leaves besides the lent bytes.
@@ -81,26 +78,29 @@ pub fn collected(frame: &[u8], work: &mut [u8], value: &mut [u8], t: Tally) -> O
     ensures { BorderCollected frame.now work.old value.old t result.number work.new value.new result.tally }
 {
     if value.len() != VALUE {
+        let why = Refusal::Size;
         let c = Collected {
-            number: 1,
-            value: Value::Nothing,
+            outcome: Err(why),
             dropped: false,
         };
-        let tally = collect::tallied(t, c);
-        return Outcome { number: 1, tally };
-    }
-    let c = collect::collect(frame, work);
-    if c.number != 0 {
-        let tally = collect::tallied(t, c);
         return Outcome {
-            number: c.number as u32,
-            tally,
+            number: u32::from(why.number()),
+            tally: collect::tallied(t, c),
         };
     }
-    let what = c.value;
-    show(what, value);
-    let tally = collect::tallied(t, c);
-    Outcome { number: 0, tally }
+    let c = collect::collect(frame, work);
+    match c.outcome {
+        Err(why) => {
+            let number = u32::from(why.number());
+            let tally = collect::tallied(t, c);
+            Outcome { number, tally }
+        }
+        Ok(what) => {
+            show(what, value);
+            let tally = collect::tallied(t, c);
+            Outcome { number: 0, tally }
+        }
+    }
 }
 
 // One frame into the collector (02, 2026-07). The number of the refusal or 0; the value's bytes are set where it is 0; every call alters the tally.

@@ -1,14 +1,11 @@
-use Rattle.sds_host.specs.Border.{value_bytes}
+use mathlib.Core.Path.{◌≡◌, sym, ap, ◌∙◌}
+use lib.ListN.{length}
+use Rattle.octets.proofs.Copies.{copied_whole}
+use Rattle.sds_host.specs.Border.{value_size}
+use Rattle.sds_host.proofs.Values.{value_long}
 use Rattle.sds_host.proofs.show.Goals as goal
 
-pub returns-in-Nothing : goal.returns-in-Nothing
-unfolding value_bytes
-returns-in-Nothing c = rw c.in-Nothing.is c.put_value.ensures
-
-pub returns-in-Whole : goal.returns-in-Whole
-unfolding value_bytes
-returns-in-Whole c = rw c.in-Whole.is c.put_value-in-Whole.ensures
-
-pub returns-in-Complete : goal.returns-in-Complete
-unfolding value_bytes
-returns-in-Complete c = rw (c.in-Complete.is, ← c.data_place.ensures) c.put_value-in-Complete.ensures
+pub returns : goal.returns
+returns c =
+    let bytes = c.value_bytes.ensures in
+    c.copy.ensures ∙ copied_whole c.value_bytes.result c.args.value.now (ap length bytes ∙ value_long c.args.what ∙ sym c.requires) ∙ bytes
