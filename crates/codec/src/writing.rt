@@ -1,8 +1,8 @@
 // Writing: a message to the ten bytes of a record that carries it.
-ghost use Rattle.std.specs.Prelude.{◌≡◌, ◌<◌, ◌%◌, ◌&&◌, leb, true, length};
-ghost use Rattle.codec.specs.Names.{frame_size, lowest_long};
+ghost use Rattle.std.specs.Prelude.{◌≡◌, ◌<◌, ◌%◌, ◌&&◌, leb, true};
+ghost use Rattle.codec.specs.Names.{lowest_long};
 ghost use Rattle.codec.specs.Writing.{subject_fits, carried, can_header, image_of, write_number, written_number, written_of};
-ghost use Rattle.codec.specs.Code.{prefixed, put_ten, put_long, put_short};
+ghost use Rattle.codec.specs.Code.{prefixed, long_places, short_places, put_ten, put_long, put_short};
 
 use crate::{
     FRAME_SIZE, LOWEST_LONG, MOST_ADDRESS, MOST_FRAGMENT_DATA, Message, Subject, WriteError,
@@ -65,6 +65,26 @@ fn can_header(dir: u8, address: u8, service: u8, dlc: u8) -> [u8; 2]
     [dir % 2 * 128 + address % 128, service % 8 * 32 + dlc]
 }
 
+// The ten bytes of a long form, of its flag and what stands behind its ID. Nothing is tested: each field is cut to its bits.
+#[tactic(auto, unfolding(crate::specs::Code::long_places))]
+fn long_places(u: Subject, flag: u8, payload: Data) -> [u8; FRAME_SIZE]
+    ensures { result ≡ long_places u flag payload }
+{
+    let [b0, b1] = can_header(u.dir, u.address, u.service, payload.len % 8 + 2);
+    let b2 = u.response % 4 * 64 + flag % 2 * 32 + u.object % 32;
+    let [d0, d1, d2, d3, d4, d5] = octets::places_of(payload);
+    [b0, b1, b2, u.id, d0, d1, d2, d3, d4, d5]
+}
+
+// The ten bytes of a short form, each field cut to its bits.
+#[tactic(auto, unfolding(crate::specs::Code::short_places))]
+fn short_places(dir: u8, address: u8, service: u8) -> [u8; FRAME_SIZE]
+    ensures { result ≡ short_places dir address service }
+{
+    let [b0, b1] = can_header(dir, address, service, 0);
+    [b0, b1, 0, 0, 0, 0, 0, 0, 0, 0]
+}
+
 // Puts ten bytes into a record of ten. One of another length stays.
 fn put_ten(bytes: [u8; FRAME_SIZE], frame: &mut [u8])
     ensures { frame.new ≡ put_ten bytes frame.old }
@@ -74,45 +94,41 @@ fn put_ten(bytes: [u8; FRAME_SIZE], frame: &mut [u8])
     }
 }
 
-// Puts a long form into a record of ten bytes, of its flag and what stands behind its ID. Nothing is tested: each field is cut to its bits.
-#[tactic(auto, unfolding(crate::specs::Code::put_long, crate::specs::Code::long_places))]
+// Puts a long form into a record of ten bytes.
+#[tactic(auto, unfolding(crate::specs::Code::put_long))]
 pub fn put_long(u: Subject, flag: u8, payload: Data, frame: &mut [u8])
     ensures { frame.new ≡ put_long u flag payload frame.old }
 {
-    let [b0, b1] = can_header(u.dir, u.address, u.service, payload.len % 8 + 2);
-    let b2 = u.response % 4 * 64 + flag % 2 * 32 + u.object % 32;
-    let [d0, d1, d2, d3, d4, d5] = octets::places_of(payload);
-    put_ten([b0, b1, b2, u.id, d0, d1, d2, d3, d4, d5], frame);
+    put_ten(long_places(u, flag, payload), frame);
 }
 
-// Puts a short form into a record of ten bytes. Nothing is tested: each field is cut to its bits.
-#[tactic(auto, unfolding(crate::specs::Code::put_short, crate::specs::Code::short_places))]
+// Puts a short form into a record of ten bytes.
+#[tactic(auto, unfolding(crate::specs::Code::put_short))]
 pub fn put_short(dir: u8, address: u8, service: u8, frame: &mut [u8])
     ensures { frame.new ≡ put_short dir address service frame.old }
 {
-    let [b0, b1] = can_header(dir, address, service, 0);
-    put_ten([b0, b1, 0, 0, 0, 0, 0, 0, 0, 0], frame);
+    put_ten(short_places(dir, address, service), frame);
 }
 
-// Puts the frame that carries a message.
-#[tactic(auto, using(crate::proofs::Images::short_put, crate::proofs::Images::plain_put, crate::proofs::Images::fragment_put))]
-fn put(m: Message, frame: &mut [u8])
-    requires { (carried m ≡ true) × (length frame.old ≡ frame_size) }
-    ensures { frame.new ≡ image_of m }
+// The record of a message that a readable frame carries.
+#[tactic(auto, using(crate::proofs::Images::short_image, crate::proofs::Images::plain_image, crate::proofs::Images::fragment_image))]
+fn image_of(m: Message) -> [u8; FRAME_SIZE]
+    requires { carried m ≡ true }
+    ensures { result ≡ image_of m }
 {
     match m {
         Message::Short {
             dir,
             address,
             service,
-        } => put_short(dir, address, service, frame),
-        Message::Plain { about, body } => put_long(about, 0, body, frame),
+        } => short_places(dir, address, service),
+        Message::Plain { about, body } => long_places(about, 0, body),
         Message::Fragment {
             about,
             number,
             total,
             body,
-        } => put_long(about, 1, prefixed(number, total, body), frame),
+        } => long_places(about, 1, prefixed(number, total, body)),
     }
 }
 
@@ -127,6 +143,6 @@ pub fn write(m: Message, frame: &mut [u8]) -> Result<(), WriteError>
     if !carried(m) {
         return Err(WriteError::Unfit);
     }
-    put(m, frame);
+    frame.copy_from_slice(&image_of(m));
     Ok(())
 }
