@@ -2,25 +2,16 @@
 use Prim.Native.Nat.{ℕ}
 use mathlib.Core.Path.{◌≡◌, sym, ap, ◌∙◌}
 use mathlib.Core.Bool.{true, and-eq-true_iff}
-use mathlib.Core.List.{List, [], ◌∷◌, ◌++◌}
+use mathlib.Core.List.{List, ◌∷◌, ◌++◌}
 use native.Mathlib.Omega.{arith}
 use lib.ListN.{length, drop, replicate, length-drop, drop_of_length-le}
 use lib.Dec.{eqb}
-use borrow.Author.Tests.{eqb-true, eqb-false, eq-eqb, ne_eqb}
+use borrow.Author.Tests.{eqb-true}
 use Rattle.laws.specs.Bytes.{byte_at}
-use Rattle.laws.specs.Checks.{first_of}
 use Rattle.laws.proofs.Tests.{split}
 use Rattle.laws.proofs.Bytes.{zeros_are, places, places_back}
-use Rattle.octets.specs.declared.Data.{Data}
 use Rattle.octets.specs.Data.{data_of}
-use Rattle.codec.specs.declared.Header.{Header}
-use Rattle.codec.specs.declared.Subject.{Subject}
-use Rattle.std.specs.Prelude.{Ok, Err}
-use Rattle.codec.specs.Fields.{header_of}
-use Rattle.codec.specs.Reading.{read_checks, subject_of, short_of, message_of, read_of}
-use Rattle.codec.specs.Code.{payload_data, unprefixed}
-use Rattle.codec.proofs.Long.{payload_plain, payload_fragment}
-use Rattle.sds.specs.Border.{message_size, long_bytes, short_subject, message_bytes, long_message, record_message, put_message, subject_at, data_at, message_at, bordered, border_read_number, border_read}
+use Rattle.sds.specs.Border.{long_bytes, message_bytes, subject_at, data_at, message_at, bordered}
 
 -- sixteen bytes, one by one, or the first four of them
 module _ (l : List ℕ) (n : length l ≡ 16) where
@@ -55,58 +46,3 @@ module _ (l : List ℕ) (n : length l ≡ 16) where
       (λ g.
       let kind = eqb-true (byte_at l 0) 2 (simp (f, g) at b) in
       simp (f, g) (ap (λ (j : ℕ). j ∷ places 15 1 l) (sym kind) ∙ all_places)))
-
--- ---- a record's message, put place by place: m is the buffer before, x afterwards
-
-module _ (r m x : List ℕ) where
-  pub short_put : (h : Header) → h ≡ header_of r → h.dlc ≡ 0 → (u : Subject) → u ≡ short_subject h.dir h.address h.service
-      → (d : Data) → d ≡ data_of [] → x ≡ put_message (long_bytes 0 u 0 0 d) m → x ≡ put_message (record_message r) m
-  unfolding record_message
-  short_put h he z u ue d de e = e ∙ rw (ue, de) (simp (← he, eq-eqb h.dlc 0 z))
-
-  pub long_put : (h : Header) → h ≡ header_of r → (h.dlc ≡ 0 → ⊥) → x ≡ put_message (long_message h (payload_data r)) m → x ≡ put_message (record_message r) m
-  unfolding record_message
-  long_put h he z e = e ∙ simp (← he, ne_eqb h.dlc 0 z)
-
-  module _ (h : Header) (p : Data) (pe : p ≡ payload_data r) (u : Subject) (ue : u ≡ subject_of h) where
-    pub plain_put : (h.flag ≡ 1 → ⊥) → x ≡ put_message (long_bytes 1 u 0 0 p) m → x ≡ put_message (long_message h (payload_data r)) m
-    unfolding long_message
-    plain_put f e = e ∙ rw (ue, pe) (simp (ne_eqb h.flag 1 f))
-
-    pub fragment_put : h.flag ≡ 1 → (b : Data) → b ≡ unprefixed p → x ≡ put_message (long_bytes 2 u (byte_at p.places 0) (byte_at p.places 1) b) m
-        → x ≡ put_message (long_message h (payload_data r)) m
-    unfolding long_message
-    fragment_put f b be e = e ∙ rw (be, ue, pe) (simp (eq-eqb h.flag 1 f))
-
--- the message of a short form
-message_short : (r : List ℕ) → (header_of r).dlc ≡ 0 → message_of r ≡ short_of (header_of r)
-unfolding message_of
-message_short r z = simp (eq-eqb (header_of r).dlc 0 z)
-
--- of a record that is read, what is put is its message's bytes
-pub put_is_message : (r : List ℕ) → first_of (read_checks r) ≡ 0 → record_message r ≡ message_bytes (message_of r)
-unfolding record_message long_message message_bytes
-put_is_message r e =
-    split (eqb (header_of r).dlc 0)
-    (λ t. rw (message_short r (eqb-true (header_of r).dlc 0 t)) (simp t))
-    (λ t.
-    let long = eqb-false (header_of r).dlc 0 t in
-    split (eqb (header_of r).flag 1)
-    (λ f. rw (payload_fragment r e long (eqb-true (header_of r).flag 1 f)) (simp (t, f)))
-    (λ f. rw (payload_plain r e long (eqb-false (header_of r).flag 1 f)) (simp (t, f))))
-
--- ---- what reading answers and leaves
-
-module _ (r l : List ℕ) (n : length l ≡ message_size) where
-  pub read_done : first_of (read_checks r) ≡ 0 → (x : List ℕ) → x ≡ put_message (record_message r) l → (0 ≡ border_read_number r l) × (x ≡ border_read r l)
-  unfolding read_of border_read_number border_read
-  read_done z x f =
-      let s = eq-eqb (length l) message_size n in
-      let g : read_of r ≡ Ok (message_of r) = simp (eq-eqb (first_of (read_checks r)) 0 z) in
-      (simp (s, g), f ∙ simp (s, g) (put_is_message r z))
-
-  pub read_refused : (k : ℕ) → Err k ≡ read_of r → (k ≡ border_read_number r l) × (l ≡ border_read r l)
-  unfolding border_read_number border_read
-  read_refused k e =
-      let s = eq-eqb (length l) message_size n in
-      (simp (s, ← e), simp (s, ← e))

@@ -1,80 +1,66 @@
 // A message as the 16 bytes that C lends.
-ghost use Rattle.std.specs.Prelude.{◌≡◌, cond, ◌&&◌, eqb, length, drop};
-ghost use Rattle.laws.specs.Bytes.{byte_at, zeros};
+ghost use Rattle.std.specs.Prelude.{◌≡◌, if◌then◌else◌, Some, None};
 ghost use Rattle.codec.specs.Reading.{number_of, numbered};
 ghost use Rattle.codec.specs.Writing.{written_number};
-ghost use Rattle.codec.specs.Code.{payload_data};
-ghost use Rattle.sds.specs.Border.{long_message, record_message, put_message, long_bytes, short_subject, subject_at, data_at, message_at, bordered, border_read_number, border_read, border_write_number, border_write};
+ghost use Rattle.sds.specs.Border.{long_bytes, short_subject, message_bytes, subject_at, data_at, message_at, bordered, border_read_number, border_read, border_write_number, border_write};
 
-use codec::{FRAME_SIZE, Header, Message, ReadError, Subject, WriteError};
-use octets::{Data, byte_at};
+use codec::{FRAME_SIZE, Message, ReadError, Subject, WriteError};
+use octets::{Data, byte_at, zeros};
 
 // The bytes of a message.
 const MESSAGE: usize = 16;
 
-// Puts the 16 bytes of a message, place by place. A buffer of another length stays.
-fn put_places(kind: u8, u: Subject, number: u8, total: u8, b: Data, message: &mut [u8])
-    ensures { message.new ≡ put_message (long_bytes kind u number total b) message.old }
+// The places of a message, of its kind's number in C.
+#[tactic(auto, unfolding(crate::specs::Border::long_bytes))]
+fn long_bytes(kind: u8, u: Subject, number: u8, total: u8, b: Data) -> [u8; MESSAGE]
+    ensures { result ≡ long_bytes kind u number total b }
 {
-    if message.len() != MESSAGE {
-        return;
-    }
-    message[0] = kind;
-    message[1] = u.dir;
-    message[2] = u.address;
-    message[3] = u.service;
-    message[4] = u.response;
-    message[5] = u.object;
-    message[6] = u.id;
-    message[7] = number;
-    message[8] = total;
-    message[9] = b.len;
-    message[10] = b.places[0];
-    message[11] = b.places[1];
-    message[12] = b.places[2];
-    message[13] = b.places[3];
-    message[14] = b.places[4];
-    message[15] = b.places[5];
+    let [b0, b1, b2, b3, b4, b5] = b.places;
+    [
+        kind, u.dir, u.address, u.service, u.response, u.object, u.id, number, total, b.len, b0, b1,
+        b2, b3, b4, b5,
+    ]
 }
 
 // The subject of a short message, which has no response, object and ID.
-fn short_subject(h: Header) -> Subject
-    ensures { result ≡ short_subject h.dir h.address h.service }
+fn short_subject(dir: u8, address: u8, service: u8) -> Subject
+    ensures { result ≡ short_subject dir address service }
 {
     Subject {
-        dir: h.dir,
-        address: h.address,
-        service: h.service,
+        dir,
+        address,
+        service,
         response: 0,
         object: 0,
         id: 0,
     }
 }
 
-// Puts the message of a record in long form with this header.
-fn put_long_message(frame: &[u8], h: Header, message: &mut [u8])
-    ensures { message.new ≡ put_message (long_message h (payload_data frame.now)) message.old }
+// The 16 bytes of a message.
+#[tactic(auto, unfolding(crate::specs::Border::message_bytes))]
+fn message_bytes(m: Message) -> [u8; MESSAGE]
+    ensures { result ≡ message_bytes m }
 {
-    let p = codec::payload_of(frame);
-    if h.flag != 1 {
-        put_places(1, h.subject(), 0, 0, p, message);
-        return;
+    match m {
+        Message::Short {
+            dir,
+            address,
+            service,
+        } => {
+            let about = short_subject(dir, address, service);
+            long_bytes(0, about, 0, 0, octets::no_data())
+        }
+        Message::Plain { about, body } => long_bytes(1, about, 0, 0, body),
+        Message::Fragment {
+            about,
+            number,
+            total,
+            body,
+        } => long_bytes(2, about, number, total, body),
     }
-    put_places(2, h.subject(), p.places[0], p.places[1], codec::unprefixed(p), message);
 }
 
-// Puts the message of a record. Nothing is tested but the buffer's length: of a record that the codec refuses it is no message.
-fn put_message(frame: &[u8], message: &mut [u8])
-    ensures { message.new ≡ put_message (record_message frame.now) message.old }
-{
-    let h = codec::header_of(frame);
-    if h.dlc == 0 {
-        put_places(0, short_subject(h), 0, 0, octets::no_data(), message);
-        return;
-    }
-    put_long_message(frame, h, message);
-}
-
+#[tactic(auto, unfolding(crate::specs::Border::subject_at))]
 fn subject_at(message: &[u8]) -> Subject
     ensures { result ≡ subject_at message.now }
 {
@@ -105,81 +91,43 @@ fn data_at(message: &[u8]) -> Data
     }
 }
 
-// The message of 16 bytes, by their kind. Every kind above 1 is taken for a fragment here: `bordered` tells it from 2.
-fn message_at(message: &[u8]) -> Message
-    ensures { result ≡ message_at message.now }
+// The message of 16 bytes, by the number of their kind. There is none of another kind, or where a place that its kind does not use is not 0.
+#[tactic(auto, unfolding(crate::specs::Border::message_at, crate::specs::Border::bordered))]
+fn message_at(message: &[u8]) -> Option<Message>
+    ensures { result ≡ if bordered message.now then Some (message_at message.now) else None }
 {
-    let kind = byte_at(message, 0);
-    if kind == 0 {
-        return Message::Short {
+    let number = byte_at(message, 7);
+    let total = byte_at(message, 8);
+    match byte_at(message, 0) {
+        0 if zeros(message.get(4..).unwrap_or(&[])) => Some(Message::Short {
             dir: byte_at(message, 1),
             address: byte_at(message, 2),
             service: byte_at(message, 3),
-        };
+        }),
+        1 if number == 0 && total == 0 => Some(Message::Plain {
+            about: subject_at(message),
+            body: data_at(message),
+        }),
+        2 => Some(Message::Fragment {
+            about: subject_at(message),
+            number,
+            total,
+            body: data_at(message),
+        }),
+        _ => None,
     }
-    let about = subject_at(message);
-    let body = data_at(message);
-    if kind == 1 {
-        return Message::Plain { about, body };
-    }
-    Message::Fragment {
-        about,
-        number: byte_at(message, 7),
-        total: byte_at(message, 8),
-        body,
-    }
-}
-
-// Whether each byte from a place on is 0.
-fn zeros_from(places: &[u8], start: usize) -> bool
-    ensures { result ≡ zeros (drop start places.now) }
-{
-    let mut i = start;
-    while i < places.len() {
-        if places[i] != 0 {
-            return false;
-        }
-        i += 1;
-    }
-    true
-}
-
-// Whether a message has neither fragment number nor total.
-fn unnumbered(message: &[u8]) -> bool
-    ensures { result ≡ (eqb (byte_at message.now 7) 0 && eqb (byte_at message.now 8) 0) }
-{
-    if byte_at(message, 7) != 0 {
-        return false;
-    }
-    byte_at(message, 8) == 0
-}
-
-// Whether a kind is one of the three, and each place that it does not use is 0.
-fn bordered(message: &[u8]) -> bool
-    ensures { result ≡ bordered message.now }
-{
-    let kind = byte_at(message, 0);
-    if 2 < kind {
-        return false;
-    }
-    if kind == 0 {
-        return zeros_from(message, 4);
-    }
-    if kind == 1 {
-        return unnumbered(message);
-    }
-    true
 }
 
 // Reads a record into the bytes of a message, which stay where it is refused.
+#[tactic(auto, unfolding(crate::specs::Border::border_read_number, crate::specs::Border::border_read))]
 pub(crate) fn read_into(frame: &[u8], message: &mut [u8]) -> Result<(), ReadError>
     ensures { (number_of (numbered result) ≡ border_read_number frame.now message.old) × (message.new ≡ border_read frame.now message.old) }
 {
     if message.len() != MESSAGE {
         return Err(ReadError::Size);
     }
-    codec::readable(frame)?;
-    put_message(frame, message);
+    let m = codec::read(frame)?;
+    message.copy_from_slice(&message_bytes(m));
     Ok(())
 }
 
@@ -191,8 +139,6 @@ pub(crate) fn write_from(message: &[u8], frame: &mut [u8]) -> Result<(), WriteEr
     if message.len() != MESSAGE || frame.len() != FRAME_SIZE {
         return Err(WriteError::Size);
     }
-    if !bordered(message) {
-        return Err(WriteError::Unfit);
-    }
-    codec::write(message_at(message), frame)
+    let m = message_at(message).ok_or(WriteError::Unfit)?;
+    codec::write(m, frame)
 }

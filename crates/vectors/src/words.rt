@@ -1,14 +1,19 @@
-// What was read, in words.
+// What was read, in words. Each struct here is of our own, since `Display` can be written only for a type of this crate.
 use codec::{Message, Subject};
 use octets::Data;
-use std::io;
+use std::fmt;
 
 // Dir/Pri 1 means that the address is the source (000, 3.2.1.1).
-fn print_address(rt: &impl Print, dir: u8, address: u8) -> io::Result<()> {
-    if dir == 1 {
-        print!(rt; " from {address}")
-    } else {
-        print!(rt; " to {address}")
+#[derive(Clone, Copy)]
+struct Address {
+    dir: u8,
+    number: u8,
+}
+
+impl fmt::Display for Address {
+    fn fmt<W: fmt::Write>(&self, f: &mut fmt::Formatter<W>) -> fmt::Result {
+        let way = if self.dir == 1 { "from" } else { "to" };
+        write!(f, "{way} {}", self.number)
     }
 }
 
@@ -22,66 +27,83 @@ fn response_name(response: u8) -> &'static str {
     }
 }
 
-fn print_subject(rt: &impl Print, u: Subject) -> io::Result<()> {
-    print_address(rt, u.dir, u.address)?;
-    let service = u.service;
-    let response = response_name(u.response);
-    let object = u.object;
-    let id = u.id;
-    print!(rt; " service {service} {response} object {object} id {id}")
+#[derive(Clone, Copy)]
+struct About(Subject);
+
+impl fmt::Display for About {
+    fn fmt<W: fmt::Write>(&self, f: &mut fmt::Formatter<W>) -> fmt::Result {
+        let u = self.0;
+        let address = Address {
+            dir: u.dir,
+            number: u.address,
+        };
+        let response = response_name(u.response);
+        write!(
+            f,
+            "{address} service {} {response} object {} id {}",
+            u.service, u.object, u.id
+        )
+    }
 }
 
-fn print_data(rt: &impl Print, d: Data) -> io::Result<()> {
-    let places = octets::places_of(d);
-    print!(rt; " data")?;
-    for i in 0..6 {
-        if i < d.len as usize {
-            let byte = places[i];
-            print!(rt; " {byte:02x}")?;
+#[derive(Clone, Copy)]
+struct Body(Data);
+
+impl fmt::Display for Body {
+    fn fmt<W: fmt::Write>(&self, f: &mut fmt::Formatter<W>) -> fmt::Result {
+        let places = octets::places_of(self.0);
+        write!(f, "data")?;
+        for byte in places.iter().take(self.0.len as usize) {
+            write!(f, " {byte:02x}")?;
         }
+        Ok(())
     }
-    Ok(())
 }
 
 // 000, figure 3.4.
-fn print_short_service(rt: &impl Print, service: u8) -> io::Result<()> {
+fn short_service_name(service: u8) -> &'static str {
     match service {
-        codec::CHANGE_OFF => print!(rt; " Change of State OFF"),
-        codec::CHANGE_ON => print!(rt; " Change of State ON"),
-        codec::CHANGE_OFF_ACK => print!(rt; " Change of State OFF ACK"),
-        codec::CHANGE_ON_ACK => print!(rt; " Change of State ON ACK"),
-        codec::WRITE_OFF => print!(rt; " Write OFF State"),
-        codec::WRITE_ON => print!(rt; " Write ON State"),
-        codec::WRITE_OFF_ACK => print!(rt; " Write OFF State ACK"),
-        codec::WRITE_ON_ACK => print!(rt; " Write ON State ACK"),
-        _ => print!(rt; " service {service}"),
+        codec::CHANGE_OFF => "Change of State OFF",
+        codec::CHANGE_ON => "Change of State ON",
+        codec::CHANGE_OFF_ACK => "Change of State OFF ACK",
+        codec::CHANGE_ON_ACK => "Change of State ON ACK",
+        codec::WRITE_OFF => "Write OFF State",
+        codec::WRITE_ON => "Write ON State",
+        codec::WRITE_OFF_ACK => "Write OFF State ACK",
+        codec::WRITE_ON_ACK => "Write ON State ACK",
+        _ => "no short service",
     }
 }
 
-pub(crate) fn print_message(rt: &impl Print, m: Message) -> io::Result<()> {
-    match m {
-        Message::Short {
-            dir,
-            address,
-            service,
-        } => {
-            print_address(rt, dir, address)?;
-            print!(rt; " short")?;
-            print_short_service(rt, service)
-        }
-        Message::Plain { about, body } => {
-            print_subject(rt, about)?;
-            print_data(rt, body)
-        }
-        Message::Fragment {
-            about,
-            number,
-            total,
-            body,
-        } => {
-            print_subject(rt, about)?;
-            print!(rt; " fragment {number} of {total}")?;
-            print_data(rt, body)
+#[derive(Clone, Copy)]
+pub(crate) struct Words(pub(crate) Message);
+
+impl fmt::Display for Words {
+    fn fmt<W: fmt::Write>(&self, f: &mut fmt::Formatter<W>) -> fmt::Result {
+        match self.0 {
+            Message::Short {
+                dir,
+                address,
+                service,
+            } => {
+                let address = Address {
+                    dir,
+                    number: address,
+                };
+                let name = short_service_name(service);
+                write!(f, "{address} short {name}")
+            }
+            Message::Plain { about, body } => write!(f, "{} {}", About(about), Body(body)),
+            Message::Fragment {
+                about,
+                number,
+                total,
+                body,
+            } => {
+                let about = About(about);
+                let body = Body(body);
+                write!(f, "{about} fragment {number} of {total} {body}")
+            }
         }
     }
 }
