@@ -1,15 +1,17 @@
 -- Data and the bytes that it holds: each is read off the other.
-use Prim.Native.Nat.{ℕ, ◌-◌, ◌≤◌, min}
+use Prim.Native.Nat.{ℕ, ◌-◌, ◌<◌, ◌≤◌, min}
 use Rattle.std.proofs.Math.Path.{PathP, to_path_p}
 use Rattle.std.proofs.Math.Nat.{ℕ_set}
 use mathlib.Core.Path.{◌≡◌, refl, sym, ap, ◌∙◌}
-use mathlib.Core.Bool.{true, ◌&&◌, and-eq-true_iff}
+use mathlib.Core.Bool.{true, false, ◌&&◌, and-eq-true_iff}
 use mathlib.Core.List.{List, [], ◌∷◌}
 use native.Mathlib.Omega.{arith}
 use lib.ListN.{length, get_or, take, drop, replicate, length-take}
 use lib.Seq.{length-take-le, take_at, drop_at, get_or-take}
-use lib.Dec.{leb}
-use borrow.Author.Tests.{leb-true, le-leb}
+use lib.Dec.{leb, ltb}
+use borrow.Author.Tests.{leb-true, le-leb, lt-leb}
+use mathlib.Core.Logic.{◌⊎◌, inl, inr}
+use Rattle.std.specs.List.{slice_range}
 use Rattle.laws.specs.Bytes.{zeros, padded}
 use Rattle.laws.proofs.Bytes.{are_zeros, get_d_past, padded_take}
 use Rattle.octets.specs.declared.Data.{Data}
@@ -74,10 +76,17 @@ pub bytes_counted : (d : Data) → d.len ≤ most_data → length (bytes_of d) �
 unfolding bytes_of
 bytes_counted d h = length-take-le d.len (places_of d) h
 
--- and the code takes them from the places
-pub places_cut : (d : Data) (l : List ℕ) → l ≡ places_of d → take (d.len - 0) l ≡ bytes_of d
+-- and the code gets them from the places, where there are as many
+pub places_got : (d : Data) (l : List ℕ) → l ≡ places_of d → slice_range l 0 d.len ≡ bytes_of d
 unfolding bytes_of
-places_cut d l e = let z : d.len - 0 ≡ d.len = omega arith in rw (e, z)
+places_got d l e = let z : d.len - 0 ≡ d.len = omega arith in rw (e, z)
+
+pub places_enough : (d : Data) (l : List ℕ) → l ≡ places_of d → d.len ≤ length l → d.len ≤ most_data
+places_enough d l e h = rw e at h
+
+pub places_lack : (d : Data) (l : List ℕ) → l ≡ places_of d → (d.len < 0) ⊎ (length l < d.len) → leb d.len most_data ≡ false
+places_lack d l e (inl h) = absurd (omega (arith, h))
+places_lack d l e (inr h) = lt-leb d.len most_data (rw e at h)
 
 module _ (d : Data) (t : tidy most_data d ≡ true) where
   pub bytes_length : length (bytes_of d) ≡ d.len

@@ -27,17 +27,17 @@ use Rattle.writes.specs.Code.{WriteReady, KeepReady, stored_data, stored_state, 
 
 -- the part of the store that a whole Write's bytes were copied into, put back
 pub data_back : (a : Attribute) (b : Data) → b.len ≤ most_data → (body : List ℕ) → body ≡ bytes_of b
-    → (store m : List ℕ) → a.offset + b.len ≤ length store
-    → (let part = take (a.offset + b.len - a.offset) (drop a.offset store) in m ≡ take (length part) body ++ drop (length body) part)
-    → put_mid a.offset (a.offset + b.len - a.offset) store m ≡ stored_data a b store
+    → (store m : List ℕ) → a.offset + length body ≤ length store
+    → (let part = take (a.offset + length body - a.offset) (drop a.offset store) in m ≡ take (length part) body ++ drop (length body) part)
+    → put_mid a.offset (a.offset + length body - a.offset) store m ≡ stored_data a b store
 unfolding stored_data
 data_back a b h body be store m k e =
     let start = a.offset in
-    let end = start + b.len in
-    let long = bytes_counted b h in
-    let whole = copied_whole body (take (end - start) (drop start store)) (ap length be ∙ omega (arith, long, mid_len start end store k)) in
-    simp (le-leb b.len most_data h, le-leb end (length store) k)
-    (put_mid_lem start end store m (bytes_of b) (omega (arith, long)) (e ∙ whole ∙ be))
+    let end = start + length body in
+    let long : length body ≡ b.len = ap length be ∙ bytes_counted b h in
+    let whole = copied_whole body (take (end - start) (drop start store)) (omega (arith, mid_len start end store k)) in
+    simp (le-leb b.len most_data h, le-leb (start + b.len) (length store) (omega (arith, k, long)))
+    (put_mid_lem start end store m (bytes_of b) (omega (arith, long, bytes_counted b h)) (e ∙ whole ∙ be))
 
 -- the joined bytes are as long as the part that the joiner puts them into
 joined_long : (a : Attribute) (number : ℕ) (b : Data) (work : List ℕ) → b.len ≤ most_data

@@ -1,4 +1,5 @@
 // A Write's data, put where they belong. What does not fit alters nothing, and neither does data that counts more bytes than it has places for.
+// Parts of the store are cut by a test and a range: of what is written through `get_mut` the prover knows nothing.
 ghost use Rattle.std.specs.Prelude.{◌≡◌};
 ghost use Rattle.writes.specs.Code.{stored_data, stored_state, stored_joined, kept_piece};
 
@@ -10,17 +11,16 @@ use table::Attribute;
 pub fn store_data(to: Attribute, body: Data, store: &mut [u8])
     ensures { store.new ≡ stored_data to body store.old }
 {
-    if octets::MOST < body.len {
+    let places = octets::places_of(body);
+    let Some(bytes) = places.get(..body.len as usize) else {
         return;
-    }
-    let n = body.len as usize;
+    };
     let at = to.offset as usize;
-    let end = at + n;
+    let end = at + bytes.len();
     if store.len() < end {
         return;
     }
-    let places = octets::places_of(body);
-    octets::copy(&places[0..n], &mut store[at..end]);
+    octets::copy(bytes, &mut store[at..end]);
 }
 
 // A short Write: the state is the attribute's one byte.
@@ -28,31 +28,29 @@ pub fn store_state(to: Attribute, state: u8, store: &mut [u8])
     ensures { store.new ≡ stored_state to state store.old }
 {
     let place = to.offset as usize;
-    if store.len() <= place {
-        return;
+    if place < store.len() {
+        store[place] = state;
     }
-    store[place] = state;
 }
 
 // The last fragment: the joined bytes are written into the attribute's part of the store.
 pub fn store_joined(to: Attribute, number: u8, body: Data, work: &[u8], store: &mut [u8])
     ensures { store.new ≡ stored_joined to number body work.now store.old }
 {
-    if octets::MOST < body.len {
+    let places = octets::places_of(body);
+    let Some(bytes) = places.get(..body.len as usize) else {
         return;
-    }
+    };
     let start = to.offset as usize;
     let end = start + to.len as usize;
     if store.len() < end {
         return;
     }
-    let places = octets::places_of(body);
-    let n = body.len as usize;
     let piece = Piece {
         key: [to.id],
         total: to.len,
         number,
-        body: &places[0..n],
+        body: bytes,
     };
     join::join_into(
         work,
@@ -67,16 +65,15 @@ pub fn store_joined(to: Attribute, number: u8, body: Data, work: &[u8], store: &
 pub fn keep_piece(to: Attribute, number: u8, total: u8, body: Data, work: &mut [u8])
     ensures { work.new ≡ kept_piece to number total body work.old }
 {
-    if octets::MOST < body.len {
-        return;
-    }
     let places = octets::places_of(body);
-    let n = body.len as usize;
+    let Some(bytes) = places.get(..body.len as usize) else {
+        return;
+    };
     let piece = Piece {
         key: [to.id],
         total,
         number,
-        body: &places[0..n],
+        body: bytes,
     };
     join::keep(
         work,

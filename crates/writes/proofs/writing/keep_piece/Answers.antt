@@ -1,17 +1,20 @@
-use Rattle.laws.proofs.Tests.{tests}
-use Rattle.octets.proofs.Datas.{places_cut}
+use mathlib.Core.Path.{◌∙◌}
+use Rattle.octets.proofs.Datas.{places_got, places_enough, places_lack}
 use Rattle.join.specs.Code.{key_fits}
 use Rattle.writes.specs.Code.{kept_piece}
 use Rattle.writes.proofs.Storing.{kept_back}
 use Rattle.writes.proofs.writing.keep_piece.Goals as goal
 
-pub returns-then-body-gt-MOST : goal.returns-then-body-gt-MOST
+pub returns-in_default : goal.returns-in_default
 unfolding kept_piece
-returns-then-body-gt-MOST c = search tests
+returns-in_default c = simp (places_lack c.args.body c.places_of-places.result c.places_of-places.ensures c.in_default.ensures.lookup.0)
 
 pub returns : goal.returns
 unfolding key_fits
 returns c =
     let a = c.args in
-    let body = places_cut a.body c.places_of-places.result c.places_of-places.ensures in
-    kept_back a.to a.number a.body c.if-body-gt-MOST.false a.work.now _ c.place_of.ensures _ body a.total _ c.keep.ensures
+    let places = c.places_of-places in
+    let got = c.in-Some.ensures.lookup.0 in
+    let room = places_enough a.body places.result places.ensures got.1 in
+    let body = got.2 ∙ places_got a.body places.result places.ensures in
+    kept_back a.to a.number a.body room a.work.now _ c.place_of.ensures _ body a.total _ c.keep.ensures

@@ -7,12 +7,12 @@ use borrow.Author.Tests.{lt-ltb}
 use Rattle.writes.specs.Code.{stored_state}
 use Rattle.writes.proofs.writing.store_state.Goals as goal
 
-pub returns-then-store-place : goal.returns-then-store-place
+pub returns-else-place-store : goal.returns-else-place-store
 unfolding stored_state
-returns-then-store-place c = search tests
+returns-else-place-store c = search tests
 
-pub returns : goal.returns
+pub returns-then-place-store : goal.returns-then-place-store
 unfolding stored_state put
-returns c =
+returns-then-place-store c =
     let a = c.args in
-    simp (lt-ltb _ _ c.if-store-place.false) (sets-eq (a.state ∷ []) a.store.now a.to.offset (omega arith))
+    simp (lt-ltb _ _ c.if-place-store.true) (sets-eq (a.state ∷ []) a.store.now a.to.offset (omega arith))
