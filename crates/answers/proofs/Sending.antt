@@ -1,5 +1,5 @@
 -- Frames written into the output.
-use Prim.Native.Nat.{ℕ, min, ◌+◌, ◌*◌, ◌<◌, ◌≤◌}
+use Prim.Native.Nat.{ℕ, ◌+◌, ◌-◌, ◌*◌, ◌≤◌}
 use mathlib.Core.Path.{◌≡◌, refl, sym, ap, ◌∙◌}
 use mathlib.Core.Bool.{true, and-eq-true_iff}
 use mathlib.Core.Logic.{◌↔◌}
@@ -7,11 +7,9 @@ use mathlib.Core.List.{List, [], ◌∷◌, ◌++◌, append_assoc, append-nil}
 use native.Mathlib.Numerals.{add-one}
 use native.Mathlib.Omega.{arith}
 use lib.ListN.{length, get_or, take, drop, length-append, length-take, length-drop}
-use lib.Seq.{drop-drop, take_all, take_at, drop-append-add}
-use Rattle.std.proofs.lemmas.List.{drop_all, drop_at, nil_from_length}
-use Rattle.laws.proofs.Tests.{split}
+use lib.Seq.{drop-drop, take_all, take_at, drop-append-add, get_or-drop}
 use lib.Dec.{leb}
-use borrow.Author.Tests.{eq-eqb, leb-true, leb-false, le-leb}
+use borrow.Author.Tests.{eq-eqb, leb-true, le-leb}
 use Rattle.laws.specs.Put.{put}
 use Rattle.laws.proofs.Put.{put_nothing, put_front, part_back}
 use Rattle.octets.specs.declared.Data.{Data}
@@ -27,7 +25,7 @@ use Rattle.codec.proofs.Fits.{subject_fits_lem, short_fits_lem}
 use Rattle.codec.proofs.Images.{places_are_image, short_places_are_image}
 use Rattle.guest.specs.Checks.{least_out, fragment_bytes}
 use Rattle.guest.specs.Errors.{code_of}
-use Rattle.guest.specs.Step.{answering, error_frame, success_frame, acknowledge_of, short_frame, fragment_part, fragment_frame, fragment_frames, fragment_count, read_frames, flat, sent}
+use Rattle.guest.specs.Step.{answering, error_frame, success_frame, acknowledge_of, short_frame, fragment_part, fragment_frame, fragment_frames, read_frames, flat, sent}
 use Rattle.guest.proofs.Frames.{fragment_ten, fragments_ten, fragments_count, flat_length, answering_fits, acknowledge_fits}
 use Rattle.answers.specs.Code.{Answerable, answerable, in_front, single, refused_with, acknowledged_with, short_acknowledged, part_fits, part_count, part_sent}
 
@@ -86,70 +84,32 @@ part_tidy bs n =
     let most : length (fragment_part bs n) ≤ fragment_bytes = rw length-take (omega arith) in
     tidy_data (fragment_part bs n) (omega arith) most_fragment_data most
 
+-- the rest of a part, at most one fragment's, as a slice gives it
+pub rest_cut : (bs : List ℕ) (n : ℕ) → length bs ≤ fragment_bytes * n + fragment_bytes
+    → take most_data (take (length bs - fragment_bytes * n) (drop (fragment_bytes * n) bs)) ≡ fragment_part bs n
+rest_cut bs n h =
+    let behind = drop (fragment_bytes * n) bs in
+    let k : length behind ≡ length bs - fragment_bytes * n = length-drop (fragment_bytes * n) bs in
+    rw (take_all (length bs - fragment_bytes * n) behind (omega arith))
+    (take_all most_data behind (omega arith) ∙ sym (take_all fragment_bytes behind (omega arith)))
+
 -- the bytes of a full fragment, place by place
-pub full_at : (bs : List ℕ) → length bs ≡ fragment_bytes
+pub full_at : (bs : List ℕ) (n : ℕ) → fragment_bytes * n + fragment_bytes ≤ length bs
     → record {
       len = fragment_bytes;
-      b0 = get_or bs 0 0;
-      b1 = get_or bs 1 0;
-      b2 = get_or bs 2 0;
-      b3 = get_or bs 3 0;
+      b0 = get_or bs (fragment_bytes * n) 0;
+      b1 = get_or bs (fragment_bytes * n + 1) 0;
+      b2 = get_or bs (fragment_bytes * n + 2) 0;
+      b3 = get_or bs (fragment_bytes * n + 3) 0;
       b4 = 0;
       b5 = 0;
     }
-    ≡ data_of (take most_data bs)
-full_at bs e = sym (data_taken fragment_bytes bs (omega arith)) ∙ ap data_of (take_all fragment_bytes bs (omega arith) ∙ sym (take_all most_data bs (omega arith)))
-
--- cutting a part by fragments: after n of them this rest is left
-pub record Cut (bs rest : List ℕ) (n : ℕ) : Type 0 where
-  pub behind : rest ≡ drop (fragment_bytes * n) bs
-  pub most : fragment_bytes * n ≤ length bs + 3
-
-pub cut_begun : (bs : List ℕ) → Cut bs bs 0
-cut_begun bs = record { behind = refl; most = omega arith }
-
-module _ (bs rest piece more : List ℕ) (n : ℕ) (c : Cut bs rest n) (e : rest ≡ piece ++ more) (k : length piece ≡ min fragment_bytes (length rest)) (some : 0 < length rest) where
-  lengths : length rest ≡ length piece + length more
-  lengths = ap length e ∙ length-append piece more
-
-  -- the piece that is cut off next
-  taken : piece ≡ take fragment_bytes rest
-  taken =
-      split (leb fragment_bytes (length rest))
-      (λ t. let l = leb-true fragment_bytes (length rest) t in rw e (sym (take_at piece more fragment_bytes (omega (arith, k, l)))))
-      (λ t.
-      let l = leb-false fragment_bytes (length rest) t in
-      let none : more ≡ [] = nil_from_length more (omega (arith, k, l, lengths)) in
-      sym (take_all fragment_bytes rest (omega (arith, l)) ∙ e ∙ ap (λ (m : List ℕ). piece ++ m) none ∙ append-nil piece))
-
-  left : more ≡ drop fragment_bytes rest
-  left =
-      split (leb fragment_bytes (length rest))
-      (λ t. let l = leb-true fragment_bytes (length rest) t in rw e (sym (drop_at piece more fragment_bytes (omega (arith, k, l)))))
-      (λ t.
-      let l = leb-false fragment_bytes (length rest) t in
-      nil_from_length more (omega (arith, k, l, lengths)) ∙ sym (drop_all fragment_bytes rest (omega (arith, l))))
-
-  -- there is room for its number and its frame
-  pub cut_room : fragment_bytes * n < length bs
-  cut_room = omega (arith, some, ap length c.behind ∙ length-drop (fragment_bytes * n) bs)
-
-  pub cut_part : piece ≡ fragment_part bs n
-  cut_part = taken ∙ ap (take fragment_bytes) c.behind
-
-  -- a piece's data is the fragment's
-  pub cut_data : data_of (take most_data piece) ≡ data_of (fragment_part bs n)
-  cut_data = ap data_of (take_all most_data piece (omega (arith, k)) ∙ cut_part)
-
-  pub cut_next : Cut bs more (n + 1)
-  cut_next = record {
-    behind = left ∙ ap (drop fragment_bytes) c.behind ∙ drop-drop fragment_bytes (fragment_bytes * n) bs ∙ ap (λ (k : ℕ). drop k bs) (omega arith);
-    most = omega (arith, cut_room);
-  }
-
--- where nothing is left, all fragments are cut
-pub cut_all : (bs rest : List ℕ) (n : ℕ) → Cut bs rest n → length rest ≡ 0 → n ≡ fragment_count (length bs)
-cut_all bs rest n c z = omega (arith, c.most, z, ap length c.behind ∙ length-drop (fragment_bytes * n) bs)
+    ≡ data_of (fragment_part bs n)
+full_at bs n h =
+    let start = fragment_bytes * n in
+    let k : fragment_bytes ≤ length (drop start bs) = simp length-drop (omega arith) in
+    let z : start + 0 ≡ start = omega arith in
+    sym (data_taken fragment_bytes (drop start bs) k ∙ simp (get_or-drop start bs, z))
 
 -- ---- what is put is what 01 says, of what fits
 

@@ -1,14 +1,14 @@
 // Answer frames, at the front of the output.
-ghost use Rattle.std.specs.Prelude.{◌≡◌, true, ◌∷◌, [], ◌+◌, ◌*◌, ◌≤◌, length, take};
+ghost use Rattle.std.specs.Prelude.{◌≡◌, true, ◌∷◌, [], ◌+◌, ◌*◌, ◌≤◌, length};
 ghost use Rattle.laws.specs.Put.{put};
-ghost use Rattle.octets.specs.Data.{most_data, data_of, tidy};
+ghost use Rattle.octets.specs.Data.{data_of, tidy};
 ghost use Rattle.codec.specs.Names.{frame_size, most_fragment_data};
 ghost use Rattle.codec.specs.Writing.{image_of, subject_fits};
 ghost use Rattle.codec.specs.Code.{long_places};
 ghost use Rattle.codec.specs.declared.Message.TheVariants.{Fragment};
-ghost use Rattle.guest.specs.Checks.{least_out, number_of};
+ghost use Rattle.guest.specs.Checks.{least_out, fragment_bytes, number_of};
 ghost use Rattle.guest.specs.Errors.{code_of};
-ghost use Rattle.guest.specs.Step.{answering, acknowledge_of, fragment_frames, fragment_count, read_frames, sent};
+ghost use Rattle.guest.specs.Step.{answering, acknowledge_of, fragment_frame, fragment_frames, fragment_count, read_frames, sent};
 ghost use Rattle.answers.specs.Code.{Answerable, answerable, single, refused_with, acknowledged_with, short_acknowledged, PieceReady, part_count, part_sent};
 
 use codec::{ERRONEOUS, FRAME_SIZE, Header, SUCCESSFUL, Subject};
@@ -94,32 +94,46 @@ fn send_piece(about: Subject, n: usize, total: usize, body: Data, out: &mut [u8]
     );
 }
 
-// The data of a fragment. A full one's bytes are taken from their places: most of a long reply is this.
-#[tactic(auto, using(crate::proofs::Sending::full_at))]
-fn piece_data(piece: &[u8]) -> Data
-    ensures { result ≡ data_of (take most_data piece.now) }
+// A full fragment, each of its bytes taken from its place: most of a long reply is this, so it is worth a way of its own.
+fn send_full(about: Subject, part: &[u8], n: usize, out: &mut [u8])
+    requires { PieceReady about n (length part.now) (length out.old) × (fragment_bytes * n + fragment_bytes ≤ length part.now) }
+    ensures { out.new ≡ put out.old (n * frame_size) (fragment_frame about part.now n) }
 {
-    match piece {
-        [b0, b1, b2, b3] => Data {
-            len: guest::FRAGMENT_BYTES,
-            b0: *b0,
-            b1: *b1,
-            b2: *b2,
-            b3: *b3,
-            b4: 0,
-            b5: 0,
-        },
-        _ => octets::data_from(piece),
-    }
+    let start = FRAGMENT_BYTES * n;
+    let body = Data {
+        len: guest::FRAGMENT_BYTES,
+        b0: part[start],
+        b1: part[start + 1],
+        b2: part[start + 2],
+        b3: part[start + 3],
+        b4: 0,
+        b5: 0,
+    };
+    send_piece(about, n, part.len(), body, out);
+}
+
+// The last fragment of an attribute's bytes: the rest, at most a full one.
+fn send_rest(about: Subject, part: &[u8], n: usize, out: &mut [u8])
+    requires { PieceReady about n (length part.now) (length out.old) × (fragment_bytes * n ≤ length part.now)
+        × (length part.now ≤ fragment_bytes * n + fragment_bytes) }
+    ensures { out.new ≡ put out.old (n * frame_size) (fragment_frame about part.now n) }
+{
+    let start = FRAGMENT_BYTES * n;
+    let body = octets::data_from(&part[start..]);
+    send_piece(about, n, part.len(), body, out);
 }
 
 // All fragments of an attribute's bytes, one behind the other: the full ones, and the rest if there is one.
-fn send_fragments(about: Subject, part: &[u8], out: &mut [u8])
-    requires { (subject_fits about ≡ true) × (length part.now ≤ 255) × (least_out ≤ length out.old) }
-    ensures { out.new ≡ sent (fragment_frames about part.now (fragment_count (length part.now))) out.old }
+fn send_fragments(about: Subject, part: &[u8], count: usize, out: &mut [u8])
+    requires { (subject_fits about ≡ true) × (length part.now ≤ 255) × (count ≡ fragment_count (length part.now)) × (least_out ≤ length out.old) }
+    ensures { out.new ≡ sent (fragment_frames about part.now count) out.old }
 {
-    for (n, piece) in part.chunks(FRAGMENT_BYTES).enumerate() {
-        send_piece(about, n, part.len(), piece_data(piece), out);
+    let full = part.len() / FRAGMENT_BYTES;
+    for n in 0..full {
+        send_full(about, part, n, out);
+    }
+    if full < count {
+        send_rest(about, part, full, out);
     }
 }
 
@@ -201,8 +215,9 @@ impl Request {
             self.send_single(SUCCESSFUL, octets::data_from(part), out);
             return 1;
         }
-        send_fragments(self.answering(SUCCESSFUL), part, out);
-        part.len().div_ceil(FRAGMENT_BYTES) as u8
+        let count = (part.len() + 3) / FRAGMENT_BYTES;
+        send_fragments(self.answering(SUCCESSFUL), part, count, out);
+        count as u8
     }
 
     // Whether a frame carries this address, service and object, and the output has room for the most frames of a reply.

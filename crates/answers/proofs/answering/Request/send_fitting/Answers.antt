@@ -1,11 +1,11 @@
-use mathlib.Core.Path.{◌≡◌, sym, ap, ◌∙◌}
+use mathlib.Core.Path.{refl, sym, ap, ◌∙◌}
 use native.Mathlib.Omega.{arith}
 use lib.ListN.{length}
 use lib.Seq.{take_all}
 use borrow.Author.Tests.{le-leb, lt-leb}
 use Rattle.octets.specs.Data.{most_data, data_of}
 use Rattle.codec.specs.Names.{successful}
-use Rattle.guest.specs.Step.{fragment_count, read_frames}
+use Rattle.guest.specs.Step.{read_frames}
 use Rattle.guest.proofs.Frames.{read_count}
 use Rattle.answers.proofs.Sending.{subject_ready, single_sent}
 use Rattle.answers.proofs.answering.Request.send_fitting.Goals as goal
@@ -24,14 +24,13 @@ returns-then-part-le-MOST_DATA c =
 pub send_fragments-requires : goal.send_fragments-requires
 send_fragments-requires c =
     let a = c.args in
-    (rw c.answering.ensures (subject_ready a.self.own a.self.h a.out.now c.requires.0 successful (omega arith)), c.requires.1, c.requires.0.room)
+    (rw c.answering.ensures (subject_ready a.self.own a.self.h a.out.now c.requires.0 successful (omega arith)), c.requires.1, refl, c.requires.0.room)
 
 pub returns : goal.returns
 unfolding read_frames
 returns c =
     let a = c.args in
-    let t = lt-leb (length a.part.now) most_data c.if-part-le-MOST_DATA.false in
-    let count : length (read_frames a.self.own a.self.h a.part.now) ≡ fragment_count (length a.part.now) = read_count a.self.own a.self.h a.part.now ∙ simp t in (
-      c.div_ceil.ensures ∙ omega arith ∙ sym count,
+    let t = lt-leb (length a.part.now) most_data c.if-part-le-MOST_DATA.false in (
+      sym (read_count a.self.own a.self.h a.part.now ∙ simp t),
       c.send_fragments.ensures ∙ rw c.answering.ensures (simp t),
     )
