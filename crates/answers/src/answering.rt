@@ -106,7 +106,8 @@ fn send_rest(about: Subject, part: &[u8], n: usize, out: &mut [u8])
     send_piece(about, n, part.len(), body, out);
 }
 
-// All fragments of an attribute's bytes, one behind the other: the full ones, and the rest if there is one.
+// All fragments of an attribute's bytes, one behind the other: the full ones, and the rest if there is one. By number, since a loop over `part.chunks(..)`
+// takes twice the instructions of plain C for 64 frames, and this as many as it.
 fn send_fragments(about: Subject, part: &[u8], count: usize, out: &mut [u8])
     requires { (subject_fits about ≡ true) × (length part.now ≤ 255) × (count ≡ fragment_count (length part.now)) × (least_out ≤ length out.old) }
     ensures { out.new ≡ sent (fragment_frames about part.now count) out.old }
