@@ -17,8 +17,8 @@ fn long_bytes(kind: u8, u: Subject, number: u8, total: u8, b: Data) -> [u8; MESS
 {
     let [b0, b1, b2, b3, b4, b5] = b.places;
     [
-        kind, u.dir, u.address, u.service, u.response, u.object, u.id, number, total, b.len, b0, b1,
-        b2, b3, b4, b5,
+        kind, u.dir, u.address, u.service, u.response, u.object, u.id, number, total, b.len, b0,
+        b1, b2, b3, b4, b5,
     ]
 }
 

@@ -46,8 +46,9 @@ pub fn store_joined(to: Attribute, number: u8, body: Data, work: &[u8], store: &
     if store.len() < end {
         return;
     }
+    // what is joined does not depend on the key
     let piece = Piece {
-        key: [to.id],
+        key: [],
         total: to.len,
         number,
         body: bytes,
