@@ -17,12 +17,6 @@ use Rattle.collect.specs.Step.{Answer, gives, answer_of, work_of}
 use Rattle.collect.specs.Tally.{tallied}
 use Rattle.sds_host.specs.Border.{value_size, value_bytes, border_answer, border_work, border_value, BorderCollected}
 
--- a value has eight bytes
-pub value_long : (v : Option Value) → length (value_bytes v) ≡ value_size
-unfolding value_bytes
-value_long None = refl
-value_long (Some v) = refl
-
 module _ (r work value : List ℕ) (t : Tally) where
   -- a value buffer of another length
   pub no_value : (length value ≡ value_size → ⊥) → (t' : Tally) → t' ≡ tallied t (gives 1 None false) → BorderCollected r work value t 1 work value t'

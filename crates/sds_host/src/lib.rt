@@ -36,34 +36,30 @@ pub fn sds_export_record(frame: &[u8], line: &mut [u8]) -> u32
     }
 }
 
-// The bytes of a value at a place: kind, guest, object, ID, length, 0, and the place, its low byte first.
-fn value_at(kind: u8, it: Value, place: usize) -> [u8; VALUE]
-    ensures { result ≡ value_at kind it.guest it.object it.id it.len place }
+// Puts the bytes of a value at a place: kind, guest, object, ID, length, 0, and the place, its low byte first.
+fn put_value(kind: u8, it: Value, place: usize, value: &mut [u8])
+    requires { length value.old ≡ value_size }
+    ensures { value.new ≡ value_at kind it.guest it.object it.id it.len place }
 {
     let low = (place % 256) as u8;
     let high = (place / 256 % 256) as u8;
-    [kind, it.guest, it.object, it.id, it.len, 0, low, high]
+    let bytes = [kind, it.guest, it.object, it.id, it.len, 0, low, high];
+    octets::copy(&bytes, value);
 }
 
-// The bytes of what is handed over, all 0 where nothing is.
-fn value_bytes(what: Option<Value>) -> [u8; VALUE]
-    ensures { result ≡ value_bytes what }
-{
-    let Some(it) = what else {
-        return [0; VALUE];
-    };
-    match it.place {
-        Place::Frame => value_at(1, it, codec::PAYLOAD_PLACE),
-        Place::Work => value_at(2, it, join::data_place(it.guest)),
-    }
-}
-
-// Shows what is handed over.
+// Shows what is handed over; all bytes are 0 where nothing is. Each arm puts its own: bytes made by value and put once are chosen by arithmetic.
 fn show(what: Option<Value>, value: &mut [u8])
     requires { length value.old ≡ value_size }
     ensures { value.new ≡ value_bytes what }
 {
-    octets::copy(&value_bytes(what), value);
+    let Some(it) = what else {
+        octets::copy(&[0; VALUE], value);
+        return;
+    };
+    match it.place {
+        Place::Frame => put_value(1, it, codec::PAYLOAD_PLACE, value),
+        Place::Work => put_value(2, it, join::data_place(it.guest), value),
+    }
 }
 
 // What a call leaves besides the lent bytes.
