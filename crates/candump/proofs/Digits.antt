@@ -10,7 +10,7 @@ use lib.Dec.{eqb, ltb, leb}
 use borrow.Author.Tests.{eqb-true, ltb-true, ltb-false, leb-true, le-leb, lt-leb, lt-ltb}
 use Rattle.laws.proofs.Tests.{split, halves}
 use Rattle.candump.specs.Text.Kind.{Hex}
-use Rattle.candump.specs.Text.{within, hex_value, hex_digit, is_a}
+use Rattle.candump.specs.Text.{within, hex_value, hex_digit, capitals, is_a}
 
 -- inside a range, and outside it
 pub inside : (a b c : ℕ) → a ≤ c → c ≤ b → within a b c ≡ true
@@ -54,10 +54,6 @@ right_at v (c ∷ l) e (suc i) h =
     let q : suc v + i ≡ v + suc i = omega arith in
     right_at (suc v) l (halves (eqb c (hex_digit v)) e).1 i (omega arith) ∙ ap hex_digit q
 
--- the digits of all values
-abbrev capitals : List ℕ
-capitals = 48 ∷ 49 ∷ 50 ∷ 51 ∷ 52 ∷ 53 ∷ 54 ∷ 55 ∷ 56 ∷ 57 ∷ 65 ∷ 66 ∷ 67 ∷ 68 ∷ 69 ∷ 70 ∷ []
-
-pub capital_at : (v : ℕ) → v < 16 → get_or capitals v 0 ≡ hex_digit v
+pub capital_at : (d : List ℕ) → d ≡ capitals → (v : ℕ) → v < 16 → get_or d v 0 ≡ hex_digit v
 unfolding right hex_digit
-capital_at v h = right_at 0 capitals refl v (omega arith) ∙ ap hex_digit (zero-add v)
+capital_at d e v h = rw e (right_at 0 capitals refl v (omega arith) ∙ ap hex_digit (zero-add v))

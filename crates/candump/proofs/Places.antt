@@ -18,7 +18,7 @@ use Rattle.candump.specs.Text.{opening, point, closing, mark, all_are}
 use Rattle.candump.specs.Importing.{is_time, identifier_in, is_identified}
 use Rattle.candump.specs.Code.{identifier_said}
 use Rattle.candump.proofs.Cuts.{index_found}
-use Rattle.candump.proofs.Parts.{Identified, identified}
+use Rattle.candump.proofs.Parts.{identified}
 use Rattle.candump.proofs.Grammar.{time, timed, time_passes, all_are_lem, frame_passes, three_of}
 
 -- a test that cannot hold
@@ -94,45 +94,43 @@ placed_time (c ∷ t) p =
 
 -- ---- an identifier
 
--- a frame of which a part is missing is no identified one
+-- an identified frame has its mark in the fourth place, and its three digits say the number
 module _ (f : List ℕ) where
   abbrev said : Option ℕ
   said = identifier_said (get_or f 0 0) (get_or f 1 0) (get_or f 2 0)
 
-  three_digits : Identified f → take 3 f ≡ get_or f 0 0 ∷ get_or f 1 0 ∷ get_or f 2 0 ∷ []
-  three_digits x = three_of f (omega (arith, x.found, x.three))
-
-  pub no_frame : length f < 4 → is_identified f ≡ false
-  no_frame h = sym (refuted (is_identified f) (λ e. let x = identified f e in omega (arith, x.found, x.three)))
-
-  pub no_mark : (get_or f 3 0 ≡ mark → ⊥) → is_identified f ≡ false
-  no_mark h = sym (refuted (is_identified f) (λ e. let x = identified f e in h (ap (λ (k : ℕ). get_or f k 0) (sym x.three) ∙ index_found mark f x.found)))
-
-  pub no_identifier : said ≡ None → is_identified f ≡ false
+  pub identified_places : is_identified f ≡ true → (3 < length f) × (get_or f 3 0 ≡ mark) × (said ≡ Some (identifier_in f))
   unfolding identifier_said identifier_in
-  no_identifier n =
-      sym (refuted (is_identified f)
-      (λ e.
+  identified_places e =
       let x = identified f e in
+      let long : 3 < length f = omega (arith, x.found, x.three) in
       let hex : all_are Hex (get_or f 0 0 ∷ get_or f 1 0 ∷ get_or f 2 0 ∷ []) ≡ true =
-      subst (λ (l : List ℕ). all_are Hex l ≡ true) (ap (λ (k : ℕ). take k f) x.three ∙ three_digits x) x.hex in
-      let one : said ≡ Some (identifier_in f) = simp (hex, le-leb (identifier_in f) 2047 x.most) in
-      true≢false (ap is_some (sym one ∙ n))))
+      subst (λ (l : List ℕ). all_are Hex l ≡ true) (ap (λ (k : ℕ). take k f) x.three ∙ three_of f long) x.hex in
+      (long, ap (λ (k : ℕ). get_or f k 0) (sym x.three) ∙ index_found mark f x.found, simp (hex, le-leb (identifier_in f) 2047 x.most))
 
-  -- and one that has them all is
-  pub all_there : 4 ≤ length f → get_or f 3 0 ≡ mark → (i : ℕ) → said ≡ Some i → (is_identified f ≡ true) × (i ≡ identifier_in f)
+  pub places_identified : 3 < length f → get_or f 3 0 ≡ mark → (i : ℕ) → said ≡ Some i → (is_identified f ≡ true) × (i ≡ identifier_in f)
   unfolding identifier_said identifier_in
-  all_there long e i s =
+  places_identified long e i s =
       let h = get_or f 0 0 in
       let m = get_or f 1 0 in
       let l = get_or f 2 0 in
       let d = drop 4 f in
-      let whole : f ≡ h ∷ m ∷ l ∷ mark ∷ d = sym (places_back 4 0 f long) ∙ ap (λ (x : ℕ). h ∷ m ∷ l ∷ x ∷ d) e in
+      let whole : f ≡ h ∷ m ∷ l ∷ mark ∷ d = sym (places_back 4 0 f (omega arith)) ∙ ap (λ (x : ℕ). h ∷ m ∷ l ∷ x ∷ d) e in
       split (all_are Hex (h ∷ m ∷ l ∷ []) && leb (identifier_in f) 2047)
       (λ t.
       let a = halves (all_are Hex (h ∷ m ∷ l ∷ [])) t in
       (ap is_identified whole ∙ frame_passes h m l d a.0 (leb-true (identifier_in f) 2047 a.1), sym (ap (λ (o : Option ℕ). unwrap_or o 0) (simp t at s))))
       (λ n. absurd (true≢false (sym (ap is_some (simp n at s)))))
+
+  -- so one of which a part is missing is none
+  pub no_frame : length f < 4 → is_identified f ≡ false
+  no_frame h = sym (refuted (is_identified f) (λ e. omega (arith, (identified_places e).0)))
+
+  pub no_mark : (get_or f 3 0 ≡ mark → ⊥) → is_identified f ≡ false
+  no_mark h = sym (refuted (is_identified f) (λ e. h (identified_places e).1))
+
+  pub no_identifier : said ≡ None → is_identified f ≡ false
+  no_identifier n = sym (refuted (is_identified f) (λ e. true≢false (ap is_some (sym (identified_places e).2 ∙ n))))
 
 -- ---- a record of its header and its data bytes, each put over zeros
 

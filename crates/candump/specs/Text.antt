@@ -42,6 +42,10 @@ digit_of c = cond (ltb (hex_value c) 16) (Some (hex_value c)) None
 unfoldable pub hex_digit : ℕ → ℕ
 hex_digit v = cond (ltb v 10) (48 + v) (55 + v)
 
+-- the digits of all values
+abbrev pub capitals : List ℕ
+capitals = 48 ∷ 49 ∷ 50 ∷ 51 ∷ 52 ∷ 53 ∷ 54 ∷ 55 ∷ 56 ∷ 57 ∷ 65 ∷ 66 ∷ 67 ∷ 68 ∷ 69 ∷ 70 ∷ []
+
 -- the kinds of bytes: "decimal digits", "bytes of 21 to 7E hex", hex digits
 pub data Kind : Type 0 where
   Decimal : Kind

@@ -64,20 +64,20 @@ module _ (a b c d e : _) (κs : _) (args : _) (r r' : _) (s s' : _) where
 
 -- ---- nothing is asked of a caller
 
--- (of a buffer's size the language asks, as of each type, that so many bytes can stand in memory)
+-- (of a buffer the language asks, as of each type, that its size is below 2 ^ 63: here exactly that its length is 16 less at most)
 no_lifetimes : (κ : List ℕ) (x : ℕ) → ∥ Memᴰ x [] ∥₁ → ∥ Memᴰ x κ ∥₁
 no_lifetimes κ x m = ∥∥₁_elim m ∥∥₁_prop (λ d. absurd (Memᴰ.not-nil d))
 
-in_memory : (n : ℕ) → n < 2 ^ 62 → up 8 (up 8 (0 + n * 1) + 8) < 2 ^ 63
+in_memory : (n : ℕ) → n + 16 ≤ 2 ^ 63 → up 8 (up 8 (0 + n * 1) + 8) < 2 ^ 63
 in_memory n h = omega arith
 
-pub new_asks_nothing : (n : _) (fits : _) (κs : _) (args : _) → n < 2 ^ 62 → new.Asked n fits κs args
+pub new_asks_nothing : (n : _) (fits : _) (κs : _) (args : _) → n + 16 ≤ 2 ^ 63 → new.Asked n fits κs args
 new_asks_nothing n fits κs args h = (no_lifetimes _, in_memory n h)
 
-pub held_asks_nothing : (n : _) (fits : _) (κs : _) (args : _) → n < 2 ^ 62 → held.Asked n fits κs args
+pub held_asks_nothing : (n : _) (fits : _) (κs : _) (args : _) → n + 16 ≤ 2 ^ 63 → held.Asked n fits κs args
 held_asks_nothing n fits κs args h = (no_lifetimes _, in_memory n h)
 
-pub append_asks_nothing : (n : _) (fits : _) (κs : _) (args : _) → n < 2 ^ 62 → append.Asked n fits κs args
+pub append_asks_nothing : (n : _) (fits : _) (κs : _) (args : _) → n + 16 ≤ 2 ^ 63 → append.Asked n fits κs args
 append_asks_nothing n fits κs args h = (no_lifetimes _, in_memory n h)
 
 pub send_asks_nothing : (κs : _) (args : _) → send.Asked κs args

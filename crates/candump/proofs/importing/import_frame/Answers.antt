@@ -5,7 +5,7 @@ use native.Mathlib.Omega.{arith}
 use lib.ListN.{length, drop, length-drop}
 use lib.Seq.{take_all}
 use mathlib.Core.Path.{sym}
-use Rattle.candump.proofs.Places.{no_frame, no_mark, no_identifier, all_there}
+use Rattle.candump.proofs.Places.{no_frame, no_mark, no_identifier, places_identified}
 use Rattle.candump.proofs.Parts.{frame_refused, frame_data}
 use Rattle.candump.proofs.importing.import_frame.Goals as goal
 
@@ -27,5 +27,5 @@ returns c =
     let f = c.args.frame.now in
     let s : c.identifier_of.result ≡ Some c.in_ok-identifier.identifier = search rules in
     let m : get_or f 3 0 ≡ mark = search rules in
-    let x = all_there f c.in-35.len_at_least m _ (sym c.identifier_of.ensures ∙ s) in
+    let x = places_identified f c.in-35.len_at_least m _ (sym c.identifier_of.ensures ∙ s) in
     c.import_data.ensures ∙ frame_data f x.0 _ _ x.1 (take_all (length f - 4) (drop 4 f) (simp length-drop (omega arith)))
