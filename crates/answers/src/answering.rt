@@ -53,11 +53,7 @@ fn reason(refusal: Refusal) -> Data
     Data {
         len: 1,
         b0: code(refusal),
-        b1: 0,
-        b2: 0,
-        b3: 0,
-        b4: 0,
-        b5: 0,
+        ..octets::no_data()
     }
 }
 
