@@ -29,22 +29,18 @@ fn body_plan(a: Attribute, m: Message) -> Result<Plan, Refusal>
     ensures { result ≡ body_plan a m }
 {
     match m {
-        Message::Short {
-            dir: _,
-            address: _,
-            service: _,
-        } => Err(Refusal::BadShape),
-        Message::Plain { about: _, body } => {
+        Message::Short { .. } => Err(Refusal::BadShape),
+        Message::Plain { body, .. } => {
             if body.len != a.len {
                 return Err(Refusal::WrongLength);
             }
             Ok(Plan::Write { to: a, body })
         }
         Message::Fragment {
-            about: _,
             number,
             total,
             body,
+            ..
         } => {
             if total != a.len {
                 return Err(Refusal::WrongLength);
