@@ -93,6 +93,7 @@ pub fn readable(frame: &[u8]) -> Result<(), ReadError>
 }
 
 // The message of a record, or why it is refused.
+#[inline(always)]
 pub fn read(frame: &[u8]) -> Result<Message, ReadError>
     ensures { numbered result ≡ read_of frame.now }
 {
