@@ -73,7 +73,7 @@ fn is_described(a: &Attribute) -> bool
 fn entry_fits(a: &Attribute) -> bool
     ensures { result ≡ entry_fits a.now }
 {
-    a.object <= 31 && a.access <= 7 && 1 <= a.len && is_described(a)
+    a.object <= 31 && a.access <= 7 && is_described(a) && 1 <= a.len
 }
 
 // Object and ID as one number, which a well-formed table has rise.
