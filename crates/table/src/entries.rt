@@ -1,5 +1,5 @@
 // The records of a table: what one holds, whether it fits by itself, and whether all of them are well formed.
-ghost use Rattle.std.specs.Prelude.{◌≡◌, ◌≤◌};
+ghost use Rattle.std.specs.Prelude.{◌≡◌};
 ghost use Rattle.table.specs.Code.{records};
 ghost use Rattle.table.specs.Table.{attribute_of, readable, writable, network, described, entry_fits, single_boolean, pair_of, end_of, follows, well_formed};
 
@@ -43,8 +43,8 @@ pub fn may_write(a: Attribute) -> bool
 }
 
 // Whether it is network data.
-pub(crate) fn is_network(a: Attribute) -> bool
-    ensures { result ≡ network a }
+pub(crate) fn is_network(a: &Attribute) -> bool
+    ensures { result ≡ network a.now }
 {
     a.access / 4 % 2 == 1
 }
@@ -58,12 +58,11 @@ pub fn single_boolean(a: Attribute) -> bool
 }
 
 // Whether a network record has the size of its descriptor, and another record none.
-fn is_described(a: Attribute) -> bool
-    requires { 1 ≤ a.len }
-    ensures { result ≡ described a }
+fn is_described(a: &Attribute) -> bool
+    ensures { result ≡ described a.now }
 {
     if is_network(a) {
-        descriptor_size(a.descriptor) == Some(a.len)
+        a.len == descriptor_size(a.descriptor).unwrap_or(0)
     } else {
         a.descriptor == 0
     }
@@ -71,29 +70,29 @@ fn is_described(a: Attribute) -> bool
 
 // Whether a record by itself is as 01's table says.
 #[tactic(auto, unfolding(crate::specs::Table::entry_fits))]
-fn entry_fits(a: Attribute) -> bool
-    ensures { result ≡ entry_fits a }
+fn entry_fits(a: &Attribute) -> bool
+    ensures { result ≡ entry_fits a.now }
 {
-    a.object <= 31 && a.access <= 7 && 1 <= a.len && is_described(a)
+    a.object <= 31 && a.access <= 7 && is_described(a) && 1 <= a.len
 }
 
 // Object and ID as one number, which a well-formed table has rise.
-fn pair_of(a: Attribute) -> usize
-    ensures { result ≡ pair_of a }
+fn pair_of(a: &Attribute) -> usize
+    ensures { result ≡ pair_of a.now }
 {
     256 * (a.object as usize) + (a.id as usize)
 }
 
 // Where an attribute's bytes end, beyond 16 bits: 65,535 + 255 does not wrap.
-pub(crate) fn end_of(a: Attribute) -> usize
-    ensures { result ≡ end_of a }
+pub(crate) fn end_of(a: &Attribute) -> usize
+    ensures { result ≡ end_of a.now }
 {
     (a.offset as usize) + (a.len as usize)
 }
 
 // Whether a record fits and follows those before it: its pair is at least the least that may come, its offset is their end.
-fn follows(least: usize, end: usize, a: Attribute) -> bool
-    ensures { result ≡ follows least end a }
+fn follows(least: usize, end: usize, a: &Attribute) -> bool
+    ensures { result ≡ follows least end a.now }
 {
     least <= pair_of(a) && a.offset as usize == end && entry_fits(a)
 }
@@ -107,11 +106,11 @@ pub fn well_formed(table: &[u8], store_len: usize) -> bool
     let records = records(table);
     for entry in records {
         let a = attribute_of(entry);
-        if !follows(least, end, a) {
+        if !follows(least, end, &a) {
             return false;
         }
-        least = pair_of(a) + 1;
-        end = end_of(a);
+        least = pair_of(&a) + 1;
+        end = end_of(&a);
     }
     end <= store_len
 }

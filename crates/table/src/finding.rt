@@ -28,7 +28,7 @@ pub fn find(table: &[u8], object: u8, id: u8) -> Option<Attribute>
 pub fn first_network(table: &[u8], object: u8) -> Option<Attribute>
     ensures { result ≡ first_network table.now object }
 {
-    first(table, |a| is_network(*a) && a.object == object)
+    first(table, |a| is_network(a) && a.object == object)
 }
 
 // An attribute's part of the lent store, "which the lookup hands back as a part of the caller's store"; empty where it would run past its end.
@@ -36,5 +36,5 @@ pub fn first_network(table: &[u8], object: u8) -> Option<Attribute>
 pub fn part<'a>(a: Attribute, store: &'a [u8]) -> &'a [u8]
     ensures { result.now ≡ part_of a store.now }
 {
-    store.get(a.offset as usize..end_of(a)).unwrap_or(&[])
+    store.get(a.offset as usize..end_of(&a)).unwrap_or(&[])
 }
