@@ -1,18 +1,17 @@
 -- What the joiner's functions leave of a fragment is what 02 says, of what is ready.
-use Prim.Native.Nat.{ℕ, ◌+◌, ◌-◌, ◌≤◌, ◌<◌, min}
+use Prim.Native.Nat.{ℕ, ◌+◌, ◌≤◌, ◌<◌}
 use mathlib.Core.Path.{◌≡◌, refl, sym, ap, ◌∙◌}
 use mathlib.Core.Bool.{Bool, true, false, cond, not, ◌&&◌}
 use mathlib.Mathlib.Data.Bool.Basic.{or-eq-false-eq-eq-false-and-eq-false as neither}
-use mathlib.Core.List.{List, [], ◌∷◌}
+use mathlib.Core.List.{List, []}
 use native.Mathlib.Omega.{arith}
-use lib.ListN.{length, take}
-use lib.Seq.{take_all}
+use lib.ListN.{length}
 use lib.Dec.{eqb, ltb}
 use borrow.Author.Tests.{not-false, ltb-false, lt-ltb}
 use Rattle.laws.proofs.Tests.{split}
 use Rattle.octets.specs.declared.Data.{Data}
-use Rattle.octets.specs.Data.{most_data, data_of, bytes_of}
-use Rattle.octets.proofs.Datas.{bytes_data, bytes_counted}
+use Rattle.octets.specs.Data.{most_data}
+use Rattle.octets.proofs.Datas.{bytes_counted}
 use Rattle.codec.specs.declared.Subject.{Subject}
 use Rattle.codec.specs.Names.{most_fragment_data}
 use Rattle.join.specs.Work.{record_size, data_size, base, Piece, load, filling, kept, done, shaped_by, last, astray, joined, dropped, area_after}

@@ -1,5 +1,5 @@
 -- The refusals as the code groups them, of a frame that has passed 1 and 2.
-use Rattle.std.specs.Prelude.{ℕ, ◌-◌, ◌≤◌, ◌≡◌, false, cond, List, [], ◌∷◌, length, drop, eqb, Option, Some, None, Result, Ok, Err}
+use Rattle.std.specs.Prelude.{ℕ, ◌-◌, ◌≤◌, ◌≡◌, false, cond, List, [], ◌∷◌, length, drop, eqb, Option, None, Result, Ok, Err}
 use Rattle.laws.specs.Bytes.{byte_at}
 use Rattle.octets.specs.declared.Data.{Data}
 use Rattle.octets.specs.Data.{most_data, data_of}

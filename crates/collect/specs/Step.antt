@@ -1,6 +1,6 @@
 -- One frame into the collector: what is handed over, what the work area holds then, and whether a half-joined message was lost (02, 2026-07).
-use Rattle.std.specs.Prelude.{ℕ, ◌+◌, Bool, false, cond, ◌&&◌, List, [], length, take, drop, eqb, leb, Some, None}
-use Rattle.std.specs.Prelude as Code
+-- what is handed over, if anything, is Rust's `Option`, here by the name `Handed`, beside the one of terms, which says whose
+use Rattle.std.specs.Prelude.{ℕ, ◌+◌, Bool, false, cond, ◌&&◌, List, [], length, take, drop, eqb, leb, Option as Handed, Some, None}
 use Rattle.std.proofs.Math.Option.{Option, none, some}
 use Rattle.laws.specs.Checks.{first_of}
 use Rattle.codec.specs.declared.Subject.{Subject}
@@ -56,17 +56,17 @@ owner (piece u p) = some u.address
 
 pub record Answer : Type 0 where
   pub number : ℕ
-  pub value : Code.Option Value
+  pub value : Handed Value
   pub dropped : Bool
 
 -- a whole answer is a part of its frame, a joined one a part of the work area
-abbrev pub Whole : (guest object id n : ℕ) → Code.Option Value
+abbrev pub Whole : (guest object id n : ℕ) → Handed Value
 Whole guest object id n = Some (record { guest = guest; object = object; id = id; len = n; place = Frame })
 
-abbrev pub Complete : (guest object id n : ℕ) → Code.Option Value
+abbrev pub Complete : (guest object id n : ℕ) → Handed Value
 Complete guest object id n = Some (record { guest = guest; object = object; id = id; len = n; place = Work })
 
-abbrev pub gives : ℕ → Code.Option Value → Bool → Answer
+abbrev pub gives : ℕ → Handed Value → Bool → Answer
 gives number value dropped = record { number = number; value = value; dropped = dropped }
 
 -- what a fragment brings about, by what the joiner says to it
@@ -76,7 +76,7 @@ join_number (done bs) = 0
 join_number lost = 6
 
 -- "hands over each complete value with guest, object and ID"
-abbrev pub join_value : Subject → Piece → Joined → Code.Option Value
+abbrev pub join_value : Subject → Piece → Joined → Handed Value
 join_value u p kept = None
 join_value u p (done bs) = Complete u.address u.object u.id p.total
 join_value u p lost = None
@@ -130,7 +130,7 @@ abbrev pub place_by : Place → ℕ → ℕ
 place_by Frame guest = payload_place
 place_by Work guest = base guest + head_size
 
-abbrev pub place_of : Code.Option Value → ℕ
+abbrev pub place_of : Handed Value → ℕ
 place_of None = 0
 place_of (Some v) = place_by v.place v.guest
 
@@ -140,6 +140,6 @@ area_of Frame r work = r
 area_of Work r work = work
 
 -- "A joined value is shown as a part of the work area, a whole one as a part of the frame"
-unfoldable pub part_of : Code.Option Value → List ℕ → List ℕ → List ℕ
+unfoldable pub part_of : Handed Value → List ℕ → List ℕ → List ℕ
 part_of None r work = []
 part_of (Some v) r work = cut (place_of (Some v)) v.len (area_of v.place r work)

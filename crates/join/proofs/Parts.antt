@@ -13,9 +13,8 @@ use Rattle.laws.specs.Bytes.{byte_at}
 use Rattle.laws.specs.Put.{put}
 use Rattle.octets.proofs.Copies.{copied_whole}
 use Rattle.std.proofs.lemmas.List.{take_all}
-use Rattle.laws.proofs.Put.{put_nothing}
 use Rattle.laws.proofs.Tests.{split, halves}
-use Rattle.join.specs.Work.{record_size, head_size, data_size, second_key, Joiner, simple, Piece, Work, kept, load, same_key, filling, astray, last, with_data, head_of, area_after}
+use Rattle.join.specs.Work.{record_size, head_size, data_size, second_key, Joiner, simple, Piece, Work, load, same_key, filling, astray, last}
 use Rattle.join.specs.Code.{keep_fits, join_fits, record_fits, key_fits, joined_from}
 use Rattle.join.specs.History.{Fit}
 use Rattle.join.proofs.Keys.{same_key_lem}
@@ -53,29 +52,6 @@ both_copied held front body part mid last n k e f =
     let whole : last ≡ body = f ∙ copied_whole body (take (length mid - held) (drop held mid)) (omega (arith, room)) in
     let first : take held mid ≡ front = ap (take held) e ∙ rw short (take_at front (drop (length front) part) held n) in
     rw (whole, Post-is held (length mid) mid (omega arith), drop-length mid, append-nil body, first)
-
--- a fragment's data and what stands before a record's data put: all that is put of a fragment whose key has one byte
-one_byte : (k : List ℕ) → length k ≡ 1 → drop 1 k ≡ []
-one_byte [] e = absurd (omega arith)
-one_byte (x ∷ []) e = refl
-one_byte (x ∷ y ∷ k) e = absurd (omega arith)
-
-pub one_kept : (j : Joiner) (at : ℕ) (p : Piece) (l m : List ℕ) → length p.key ≡ 1 → m ≡ put (with_data j at p l) at (head_of p)
-    → m ≡ area_after j at p kept l
-unfolding area_after
-one_kept j at p l m o e = rw (one_byte p.key o) (e ∙ sym (put_nothing (put (with_data j at p l) at (head_of p)) _))
-
--- and then the second byte of a key that has two
-two_bytes : (k : List ℕ) → length k ≡ 2 → drop 1 k ≡ byte_at k 1 ∷ []
-two_bytes [] e = absurd (omega arith)
-two_bytes (x ∷ []) e = absurd (omega arith)
-two_bytes (x ∷ y ∷ []) e = refl
-two_bytes (x ∷ y ∷ z ∷ k) e = absurd (omega arith)
-
-pub two_kept : (j : Joiner) (at : ℕ) (p : Piece) (l m k : List ℕ) → length p.key ≡ 2 → m ≡ put (with_data j at p l) at (head_of p)
-    → k ≡ put m (at + second_key) (byte_at p.key 1 ∷ []) → k ≡ area_after j at p kept l
-unfolding area_after
-two_kept j at p l m k o e f = rw (two_bytes p.key o) (f ∙ ap (λ (x : List ℕ). put x (at + second_key) (byte_at p.key 1 ∷ [])) e)
 
 -- ---- where the lent slices have room
 

@@ -1,19 +1,18 @@
--- Where a record has room, and the last fragment stored.
+-- What the second byte of a key adds to what the first one does, where a whole record has room, and the last fragment stored.
 use Prim.Native.Nat.{ℕ, ◌+◌, ◌*◌, ◌<◌, ◌≤◌}
 use mathlib.Core.Path.{◌≡◌, refl, sym, ap, ◌∙◌}
-use mathlib.Core.Bool.{Bool, true, false, cond, not, ◌&&◌, ◌||◌, and-false}
+use mathlib.Core.Bool.{true, cond, ◌&&◌}
 use mathlib.Core.List.{List, [], ◌∷◌}
 use native.Mathlib.Omega.{arith}
-use lib.ListN.{length, get_or-eq_default}
-use lib.Dec.{eqb, leb, ltb}
-use borrow.Author.Tests.{eqb-true, eqb-false, ltb-true, leb-true, eq-eqb, ne_eqb, lt-ltb, le-leb, not-false}
+use lib.ListN.{length, drop}
+use lib.Dec.{leb, ltb}
+use borrow.Author.Tests.{ltb-true, leb-true, lt-ltb, le-leb}
 use Rattle.laws.specs.Bytes.{byte_at}
 use Rattle.laws.specs.Put.{put}
 use Rattle.laws.proofs.Put.{put_nothing}
-use Rattle.laws.proofs.Tests.{split, halves}
-use Rattle.join.specs.Work.{record_size, head_size, data_size, second_key, collecting, Piece, done, dropped, with_data, area_after}
-use Rattle.join.specs.Code.{keep_fits, record_fits}
-use Rattle.join.proofs.Parts.{keeps}
+use Rattle.laws.proofs.Tests.{halves}
+use Rattle.join.specs.Work.{record_size, data_size, second_key, Joiner, collecting, Piece, kept, done, dropped, with_data, head_of, area_after}
+use Rattle.join.specs.Code.{record_fits}
 
 -- ---- where a record has room
 
@@ -33,6 +32,31 @@ pub in_room : (work at w number body : ℕ) → Room work at w number body → r
 unfolding record_fits
 in_room work at w number body r =
     simp (lt-ltb number 255 r.byte, le-leb (at + record_size) work r.inside, le-leb (w * number + body) data_size r.body_fits)
+
+-- ---- what is kept
+
+-- a fragment's data and what stands before a record's data put: all that is put of a fragment whose key has one byte
+one_byte : (k : List ℕ) → length k ≡ 1 → drop 1 k ≡ []
+one_byte [] e = absurd (omega arith)
+one_byte (x ∷ []) e = refl
+one_byte (x ∷ y ∷ k) e = absurd (omega arith)
+
+pub one_kept : (j : Joiner) (at : ℕ) (p : Piece) (l m : List ℕ) → length p.key ≡ 1 → m ≡ put (with_data j at p l) at (head_of p)
+    → m ≡ area_after j at p kept l
+unfolding area_after
+one_kept j at p l m o e = rw (one_byte p.key o) (e ∙ sym (put_nothing (put (with_data j at p l) at (head_of p)) _))
+
+-- and then the second byte of a key that has two
+two_bytes : (k : List ℕ) → length k ≡ 2 → drop 1 k ≡ byte_at k 1 ∷ []
+two_bytes [] e = absurd (omega arith)
+two_bytes (x ∷ []) e = absurd (omega arith)
+two_bytes (x ∷ y ∷ []) e = refl
+two_bytes (x ∷ y ∷ z ∷ k) e = absurd (omega arith)
+
+pub two_kept : (j : Joiner) (at : ℕ) (p : Piece) (l m k : List ℕ) → length p.key ≡ 2 → m ≡ put (with_data j at p l) at (head_of p)
+    → k ≡ put m (at + second_key) (byte_at p.key 1 ∷ []) → k ≡ area_after j at p kept l
+unfolding area_after
+two_kept j at p l m k o e f = rw (two_bytes p.key o) (f ∙ ap (λ (x : List ℕ). put x (at + second_key) (byte_at p.key 1 ∷ [])) e)
 
 -- ---- the last fragment
 

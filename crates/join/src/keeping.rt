@@ -52,9 +52,10 @@ fn fits_area<const K: usize>(size: usize, at: usize, width: u8, piece: &Piece<K>
 fn fits_record<const K: usize>(size: usize, at: usize, width: u8, piece: &Piece<K>) -> bool
     ensures { result ≡ record_fits size at width piece.now.number (length piece.now.body.now) }
 {
-    RECORD <= size.saturating_sub(at)
-        && piece.number != 255
-        && start_of(width, piece.number) + piece.body.len() <= DATA
+    if size.saturating_sub(at) < RECORD || piece.number == 255 {
+        return false;
+    }
+    start_of(width, piece.number) + piece.body.len() <= DATA
 }
 
 // Keeps a fragment that is not its message's last: status 1, key, total, next number, and its data at their place of the record. The second byte of a key

@@ -1,12 +1,12 @@
 -- What a call of the collector leaves in C's buffers, from what the calls below it give.
 use Prim.Native.Nat.{ℕ}
-use mathlib.Core.Path.{◌≡◌, refl, sym, ap, ◌∙◌}
+use mathlib.Core.Path.{◌≡◌, sym, ap, ◌∙◌}
 use mathlib.Core.Bool.{true, false}
 use mathlib.Core.List.{List}
 use lib.ListN.{length}
 use lib.Dec.{eqb}
 use borrow.Author.Tests.{eq-eqb, ne_eqb}
-use Rattle.std.specs.Prelude.{Option, Some, None, Ok, Err}
+use Rattle.std.specs.Prelude.{Option, None, Ok, Err}
 use Rattle.collect.specs.declared.Value.{Value}
 use Rattle.collect.specs.declared.Refusal.{Refusal}
 use Rattle.collect.specs.declared.Collected.{Collected}

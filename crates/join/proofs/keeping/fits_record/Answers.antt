@@ -1,41 +1,29 @@
-use Prim.Native.Nat.{◌+◌, ◌≤◌, ◌<◌}
-use mathlib.Core.Path.{◌≡◌, refl, ◌∙◌}
-use mathlib.Core.Bool.{◌&&◌, and-true, and-false}
+use Prim.Native.Nat.{◌+◌, ◌<◌, ◌≤◌}
+use mathlib.Core.Bool.{and-false}
 use native.Mathlib.Omega.{arith}
-use lib.Dec.{leb, ltb}
-use borrow.Author.Tests.{le-leb, lt-leb}
+use borrow.Author.Tests.{le-leb, lt-leb, lt-ltb, le-ltb}
 use Rattle.join.specs.Work.{record_size}
 use Rattle.join.specs.Code.{record_fits}
-use Rattle.join.proofs.Parts.{room_as, next_byte}
 use Rattle.join.proofs.keeping.fits_record.Goals as goal
-use Rattle.join.proofs.keeping.fits_record.Goals.{then-saturating_sub-ge-RECORD, else-saturating_sub-ge-RECORD}
+use Rattle.join.proofs.keeping.fits_record.Goals.{then-saturating_sub-lt-RECORD-via-then-saturating_sub-lt-RECORD, then-saturating_sub-lt-RECORD-via-else-saturating_sub-lt-RECORD+then-piece}
 
-pub returns-then-piece : goal.returns-then-piece
+pub returns-then-saturating_sub-lt-RECORD : goal.returns-then-saturating_sub-lt-RECORD
 unfolding record_fits
-returns-then-piece g c =
+returns-then-saturating_sub-lt-RECORD g c =
     let a = c.args in
-    let n = a.piece.now.number in
-    let both : c.if-saturating_sub-ge-RECORD.value ≡ (ltb n 255 && leb (a.at + record_size) a.size) = elim c.if-saturating_sub-ge-RECORD.branch [
-      | then-saturating_sub-ge-RECORD w ↦
-          let room : a.at + record_size ≤ a.size = omega (arith, c.saturating_sub.ensures, w.if-saturating_sub-ge-RECORD.true) in
-          w.value-is ∙ rw (← next_byte n (omega arith)) (simp (le-leb (a.at + record_size) a.size room, and-true))
-      | else-saturating_sub-ge-RECORD w ↦
-          let none : a.size < a.at + record_size = omega (arith, c.saturating_sub.ensures, w.if-saturating_sub-ge-RECORD.false) in
-          w.value-is ∙ rw (c.saturating_sub.ensures, room_as a.size a.at record_size (omega arith)) (simp (lt-leb (a.at + record_size) a.size none, and-false))
-    ] in
-    rw (← both, c.if-piece.true, c.start_of.ensures.times) refl
+    elim c.then-saturating_sub-lt-RECORD.branch [
+      | then-saturating_sub-lt-RECORD-via-then-saturating_sub-lt-RECORD w ↦
+          let none : a.size < a.at + record_size = omega (arith, c.saturating_sub.ensures, w.if-saturating_sub-lt-RECORD.true) in
+          simp (lt-leb _ _ none, and-false)
+      | then-saturating_sub-lt-RECORD-via-else-saturating_sub-lt-RECORD+then-piece w ↦
+          let most : 255 ≤ a.piece.now.number = omega (arith, w.if-piece.true) in
+          simp (le-ltb _ _ most)
+    ]
 
-pub returns-else-piece : goal.returns-else-piece
+pub returns : goal.returns
 unfolding record_fits
-returns-else-piece g c =
+returns g c =
     let a = c.args in
-    let n = a.piece.now.number in
-    let both : c.if-saturating_sub-ge-RECORD.value ≡ (ltb n 255 && leb (a.at + record_size) a.size) = elim c.if-saturating_sub-ge-RECORD.branch [
-      | then-saturating_sub-ge-RECORD w ↦
-          let room : a.at + record_size ≤ a.size = omega (arith, c.saturating_sub.ensures, w.if-saturating_sub-ge-RECORD.true) in
-          w.value-is ∙ rw (← next_byte n (omega arith)) (simp (le-leb (a.at + record_size) a.size room, and-true))
-      | else-saturating_sub-ge-RECORD w ↦
-          let none : a.size < a.at + record_size = omega (arith, c.saturating_sub.ensures, w.if-saturating_sub-ge-RECORD.false) in
-          w.value-is ∙ rw (c.saturating_sub.ensures, room_as a.size a.at record_size (omega arith)) (simp (lt-leb (a.at + record_size) a.size none, and-false))
-    ] in
-    rw (← both, c.if-piece.false) refl
+    let room : a.at + record_size ≤ a.size = omega (arith, c.saturating_sub.ensures) in
+    let next : a.piece.now.number < 255 = omega arith in
+    rw c.start_of.ensures.times (simp (lt-ltb _ _ next, le-leb _ _ room))

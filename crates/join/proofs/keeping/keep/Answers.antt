@@ -1,5 +1,5 @@
-use Prim.Native.Nat.{◌+◌, ◌*◌, ◌≤◌, ◌<◌}
-use mathlib.Core.Path.{◌≡◌, sym, ap, ◌∙◌}
+use Prim.Native.Nat.{◌+◌, ◌≤◌, ◌<◌}
+use mathlib.Core.Path.{◌≡◌, sym, ◌∙◌}
 use mathlib.Core.List.{[], ◌∷◌}
 use native.Mathlib.Omega.{arith}
 use lib.ListN.{length}
@@ -7,10 +7,10 @@ use lib.Seq.{sets-eq}
 use borrow.Author.Rules.{rules}
 use Rattle.laws.specs.Bytes.{byte_at}
 use Rattle.laws.specs.Put.{put}
-use Rattle.join.specs.Work.{head_size, second_key}
+use Rattle.join.specs.Work.{second_key}
 use Rattle.join.specs.Code.{keyed_by, fragment}
-use Rattle.join.proofs.Parts.{kept_room, by_one, by_two, by_other, one_kept, two_kept}
-use Rattle.join.proofs.Two.{room_in}
+use Rattle.join.proofs.Parts.{kept_room, by_one, by_two, by_other}
+use Rattle.join.proofs.Two.{room_in, one_kept, two_kept}
 use Rattle.join.proofs.keeping.keep.Goals as goal
 
 pub put_piece-requires : goal.put_piece-requires
