@@ -1,15 +1,15 @@
 -- What stands before and behind the first of some byte.
-use Prim.Native.Nat.{ℕ, suc, ◌<◌, ◌≤◌}
+use Prim.Native.Nat.{ℕ, suc, ◌-◌, ◌<◌, ◌≤◌}
 use mathlib.Core.Path.{◌≡◌, refl, sym, ap, ◌∙◌}
 use mathlib.Core.Bool.{Bool, true, false, ◌&&◌}
 use mathlib.Core.List.{List, [], ◌∷◌, ◌++◌}
 use native.Mathlib.Omega.{arith}
 use native.Mathlib.Numerals.{add-one}
-use lib.ListN.{length, get_or, take, length-drop}
-use lib.Seq.{split_at, take_at, drop-append-add, length-take-le}
+use lib.ListN.{length, get_or, take, drop, length-drop}
+use lib.Seq.{split_at, take_at, take_all, drop-drop, drop-append-add, length-take-le}
 use lib.Dec.{eqb, ltb}
-use borrow.Author.Tests.{eqb-true, eq-eqb, ltb-false}
-use Rattle.std.specs.Prelude.{Option}
+use borrow.Author.Tests.{eqb-true, eq-eqb, ltb-true, ltb-false}
+use Rattle.std.specs.Prelude.{Option, Some, None, MatchOption}
 use Rattle.std.specs.Option.{unwrap_or}
 use Rattle.std.specs.List.{position_or_len, position, list_all}
 use Rattle.std.proofs.lemmas.List.Recursion.{is_position_or_len}
@@ -64,22 +64,34 @@ module _ (k : Kind) (c : ℕ) (no : is_a k c ≡ false) where
   pub cut_behind : (a b : List ℕ) → all_are k a ≡ true → behind c (a ++ c ∷ b) ≡ b
   cut_behind a b all = rw (cut a b all) (drop-append-add a (c ∷ b) 1)
 
-pub cut_length : (c : ℕ) (l : List ℕ) (p : ℕ) → p ≡ index_of c l → p ≡ length (take p l)
-cut_length c l p e = sym (length-take-le p l (omega (arith, index_most c l)))
-
 -- std's words for the same: the place of the first byte, and a test of each byte
 index_is_position : (c : ℕ) (l : List ℕ) → index_of c l ≡ position_or_len (λ b. eqb b c) l
 unfolding index_of
 index_is_position c = is_position_or_len (index_of c) (λ b. eqb b c) refl (λ b l. split (eqb b c) (λ t. simp t) (λ f. simp f (omega arith)))
 
-pub found_place : (c : ℕ) (l : List ℕ) (o : Option ℕ) → o ≡ position (λ b. eqb b c) l → unwrap_or o (length l) ≡ index_of c l
-found_place c l o e =
-    let m = index_most c l in
+pub position_is : (c : ℕ) (l : List ℕ) (o : Option ℕ) → o ≡ position (λ b. eqb b c) l
+    → MatchOption o (index_of c l ≡ length l) (λ place. (place ≡ index_of c l) × (place < length l))
+position_is c l o e =
     rw e
     (rw (← index_is_position c l)
     (split (ltb (index_of c l) (length l))
-    (λ t. simp t)
-    (λ f. simp f (omega (arith, m, ltb-false (index_of c l) (length l) f)))))
+    (λ t. simp t (refl, ltb-true (index_of c l) (length l) t))
+    (λ f. simp f (omega (arith, index_most c l, ltb-false (index_of c l) (length l) f)))))
+
+pub found_place : (c : ℕ) (l : List ℕ) (o : Option ℕ) → o ≡ position (λ b. eqb b c) l → unwrap_or o (length l) ≡ index_of c l
+found_place c l None e = sym (position_is c l None e)
+found_place c l (Some place) e = (position_is c l (Some place) e).0
+
+-- a split at a place that was found, by what stands at its front and behind the byte
+module _ (c : ℕ) (l m x : List ℕ) (p : ℕ) (e : m ≡ l) (f : p ≡ index_of c m) where
+  pub split_front : x ≡ take p m → x ≡ up_to c l
+  split_front g = g ∙ rw (f, e) refl
+
+  pub split_behind : x ≡ drop p m → take (length x - 1) (drop 1 x) ≡ behind c l
+  split_behind g = take_all (length x - 1) (drop 1 x) (simp length-drop (omega arith)) ∙ ap (drop 1) g ∙ drop-drop 1 p m ∙ rw (f, e) refl
+
+  pub split_none : x ≡ drop p m → length x < 1 → index_of c l ≡ length l
+  split_none g h = rw (← e) (omega (arith, index_most c m, ap length g ∙ length-drop p m))
 
 pub all_decimal : (l : List ℕ) → all_are Decimal l ≡ list_all (λ c. is_ascii_digit c) l
 unfolding is_a

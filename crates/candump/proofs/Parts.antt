@@ -1,14 +1,15 @@
 -- What the tests of a line's parts let through, and what is imported of them.
-use Prim.Native.Nat.{ℕ, suc, ◌/◌, ◌%◌, ◌<◌, ◌≤◌}
+use Prim.Native.Nat.{ℕ, suc, ◌+◌, ◌/◌, ◌%◌, ◌<◌, ◌≤◌}
 use mathlib.Core.Path.{◌≡◌, refl, sym, ap, ◌∙◌}
 use mathlib.Core.Bool.{true, false, true≢false, ◌&&◌, ◌||◌}
 use mathlib.Core.List.{List, [], ◌++◌}
 use native.Mathlib.Omega.{arith}
-use lib.ListN.{length, drop}
+use lib.ListN.{length, drop, drop_of_length-le}
 use lib.Dec.{eqb, ltb, leb}
 use borrow.Author.Tests.{eqb-true, ltb-true, leb-true, lt-ltb, le-ltb, not-false}
 use Rattle.std.specs.Prelude.{Option, Some, None}
 use Rattle.std.specs.Option.{unwrap_or, is_some}
+use Rattle.std.proofs.Math.Bool.{and-false}
 use Rattle.laws.specs.Bytes.{padded}
 use Rattle.laws.specs.Checks.{first_of, holds_at}
 use Rattle.laws.proofs.Bytes.{length_padded}
@@ -16,7 +17,7 @@ use Rattle.laws.proofs.Checks.{none_holds}
 use Rattle.laws.proofs.Tests.{split, halves}
 use Rattle.codec.specs.Fields.{can_bytes}
 use Rattle.candump.specs.Text.Kind.{Hex}
-use Rattle.candump.specs.Text.{mark, all_are, index_of, up_to, behind}
+use Rattle.candump.specs.Text.{space, mark, all_are, index_of, up_to, behind}
 use Rattle.candump.specs.Frame.{can, record_of}
 use Rattle.candump.specs.Importing.{most_line, time_of, interface_of, frame_of, is_time, is_interface, is_identified, is_remote, is_bytes, bytes_in, remote_dlc, record_in, not_imported, imported, identifier_in, import_checks, data_imported, frame_imported, import_of}
 use Rattle.candump.specs.Code.{dlc_said, bytes_said}
@@ -115,13 +116,28 @@ module _ (l : List ℕ) where
     unfolding import_of
     bad_time t = simp (le-ltb most_line (length l) h, t)
 
-    pub bad_interface : is_time (time_of l) ≡ true → is_interface (interface_of l) ≡ false → not_imported 2 ≡ import_of l
+    pub bad_interface : is_interface (interface_of l) ≡ false → not_imported 2 ≡ import_of l
     unfolding import_of
-    bad_interface t i = simp (le-ltb most_line (length l) h, t, i)
+    bad_interface i = simp (le-ltb most_line (length l) h, i, and-false)
+
+    -- a line with no space has none
+    pub no_interface : index_of space l ≡ length l → not_imported 2 ≡ import_of l
+    unfolding is_interface index_of
+    no_interface e =
+        let none : behind space l ≡ [] = ap (λ (j : ℕ). drop (j + 1) l) e ∙ drop_of_length-le l {i = length l + 1} (omega arith) in
+        bad_interface (rw none refl)
 
     pub line_frame : is_time (time_of l) ≡ true → is_interface (interface_of l) ≡ true → frame_imported (frame_of l) ≡ import_of l
     unfolding import_of frame_imported
     line_frame t i = simp (le-ltb most_line (length l) h, t, i)
+
+    -- and one with one space alone has no frame
+    pub no_frame_part : is_time (time_of l) ≡ true → is_interface (interface_of l) ≡ true → index_of space (behind space l) ≡ length (behind space l) → not_imported 3 ≡ import_of l
+    unfolding is_identified index_of
+    no_frame_part t i e =
+        let rest = behind space l in
+        let none : frame_of l ≡ [] = ap (λ (j : ℕ). drop (j + 1) rest) e ∙ drop_of_length-le rest {i = length rest + 1} (omega arith) in
+        frame_refused (frame_of l) (rw none refl) ∙ line_frame t i
 
 -- what is imported is ten bytes
 pub record_size : (l : List ℕ) → first_of (import_checks l) ≡ 0 → length (record_in (identifier_in (frame_of l)) (behind mark (frame_of l))) ≡ 10

@@ -8,7 +8,7 @@ ghost use Rattle.candump.specs.Importing.{is_time, is_interface, data_imported, 
 ghost use Rattle.candump.specs.Refusals.{import_answer};
 ghost use Rattle.candump.specs.Code.{identifier_said, bytes_said, dlc_said};
 
-use crate::text::{cut, hex_value};
+use crate::text::{hex_value, place_of};
 use crate::{ImportError, MOST_LINE};
 use codec::{Can, FRAME_SIZE};
 
@@ -141,19 +141,26 @@ fn import_frame(frame: &[u8]) -> Result<[u8; FRAME_SIZE], ImportError>
 }
 
 // The record of a line's frame. Refused are a line over 128 bytes, its time or interface, its identifier and its data, the first that applies.
+#[tactic(auto, using(crate::proofs::Cuts::index_most))]
 pub fn import_line(line: &[u8]) -> Result<[u8; FRAME_SIZE], ImportError>
     ensures { import_answer result ≡ import_of line.now }
 {
     if MOST_LINE < line.len() {
         return Err(ImportError::TooLong);
     }
-    let (time, rest) = cut(b' ', line);
+    let (time, from) = line.split_at(place_of(b' ', line));
     if !is_time(time) {
         return Err(ImportError::Front);
     }
-    let (interface, frame) = cut(b' ', rest);
+    let [_, rest @ ..] = from else {
+        return Err(ImportError::Front);
+    };
+    let (interface, from) = rest.split_at(place_of(b' ', rest));
     if !is_interface(interface) {
         return Err(ImportError::Front);
     }
+    let [_, frame @ ..] = from else {
+        return Err(ImportError::Identifier);
+    };
     import_frame(frame)
 }
