@@ -1,5 +1,5 @@
 -- Frames written into the output.
-use Prim.Native.Nat.{ℕ, ◌+◌, ◌-◌, ◌*◌, ◌≤◌}
+use Prim.Native.Nat.{ℕ, ◌+◌, ◌-◌, ◌*◌, ◌/◌, ◌<◌, ◌≤◌}
 use mathlib.Core.Path.{◌≡◌, refl, sym, ap, ◌∙◌}
 use mathlib.Core.Bool.{true, and-eq-true_iff}
 use mathlib.Core.Logic.{◌↔◌}
@@ -7,7 +7,8 @@ use mathlib.Core.List.{List, [], ◌∷◌, ◌++◌, append_assoc, append-nil}
 use native.Mathlib.Numerals.{add-one}
 use native.Mathlib.Omega.{arith}
 use lib.ListN.{length, get_or, take, drop, length-append, length-take, length-drop}
-use lib.Seq.{drop-drop, take_all, take_at, drop-append-add, get_or-drop}
+use lib.Seq.{drop-drop, take_all, take_at, drop-append-add}
+use Rattle.std.proofs.lemmas.List.{drop_at}
 use lib.Dec.{leb}
 use borrow.Author.Tests.{eq-eqb, leb-true, le-leb}
 use Rattle.laws.specs.Put.{put}
@@ -93,13 +94,42 @@ rest_cut bs n h =
     rw (take_all (length bs - fragment_bytes * n) behind (omega arith))
     (take_all most_data behind (omega arith) ∙ sym (take_all fragment_bytes behind (omega arith)))
 
--- and a full fragment of it
-pub full_cut : (bs : List ℕ) (n : ℕ)
-    → take most_data (take (fragment_bytes * n + fragment_bytes - fragment_bytes * n) (drop (fragment_bytes * n) bs)) ≡ fragment_part bs n
-full_cut bs n =
-    let behind = drop (fragment_bytes * n) bs in
-    let k : fragment_bytes * n + fragment_bytes - fragment_bytes * n ≡ fragment_bytes = omega arith in
-    rw k (take_all most_data (take fragment_bytes behind) (simp length-take (omega arith)))
+-- the bytes of a full fragment
+pub full_data : (four : List ℕ) → length four ≡ fragment_bytes → data_of (take most_data four) ≡ data_of four
+full_data four e = ap data_of (take_all most_data four (omega arith))
+
+pub full_tidy : (four : List ℕ) → length four ≡ fragment_bytes → tidy most_fragment_data (data_of four) ≡ true
+full_tidy four e = tidy_data four (omega arith) most_fragment_data (omega arith)
+
+-- cutting full fragments off a part: after n of them this rest is left
+pub record Cut (bs rest : List ℕ) (n : ℕ) : Type 0 where
+  pub behind : rest ≡ drop (fragment_bytes * n) bs
+  pub inside : fragment_bytes * n ≤ length bs
+
+pub cut_begun : (bs : List ℕ) → Cut bs bs 0
+cut_begun bs = record { behind = refl; inside = omega arith }
+
+cut_length : (bs rest : List ℕ) (n : ℕ) → Cut bs rest n → length rest ≡ length bs - fragment_bytes * n
+cut_length bs rest n c = ap length c.behind ∙ length-drop (fragment_bytes * n) bs
+
+module _ (bs rest four more : List ℕ) (n : ℕ) (c : Cut bs rest n) (e : rest ≡ four ++ more) (k : length four ≡ fragment_bytes) where
+  pub cut_room : fragment_bytes * n + fragment_bytes ≤ length bs
+  cut_room = omega (arith, c.inside, k, cut_length bs rest n c, ap length e ∙ length-append four more)
+
+  pub cut_part : four ≡ fragment_part bs n
+  cut_part = sym (ap (take fragment_bytes) (sym c.behind ∙ e) ∙ take_at four more fragment_bytes k)
+
+  pub cut_next : Cut bs more (n + 1)
+  cut_next = record {
+    behind =
+        sym (drop_at four more fragment_bytes k) ∙ ap (drop fragment_bytes) (sym e ∙ c.behind)
+        ∙ drop-drop fragment_bytes (fragment_bytes * n) bs ∙ ap (λ (i : ℕ). drop i bs) (omega arith);
+    inside = omega (arith, cut_room);
+  }
+
+-- where no full one is left, all of them are cut
+pub cut_all : (bs rest : List ℕ) (n : ℕ) → Cut bs rest n → length rest < fragment_bytes → n ≡ length bs / fragment_bytes
+cut_all bs rest n c z = omega (arith, c.inside, z, cut_length bs rest n c)
 
 -- ---- what is put is what 01 says, of what fits
 

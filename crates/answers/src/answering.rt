@@ -85,14 +85,12 @@ fn send_piece(about: Subject, n: usize, total: usize, body: Data, out: &mut [u8]
     );
 }
 
-// A full fragment, each of its bytes taken from its place: most of a long reply is this, so it is worth a way of its own.
-fn send_full(about: Subject, part: &[u8], n: usize, out: &mut [u8])
-    requires { PieceReady about n (length part.now) (length out.old) × (fragment_bytes * n + fragment_bytes ≤ length part.now) }
-    ensures { out.new ≡ put out.old (n * frame_size) (fragment_frame about part.now n) }
+// A full fragment of a reply of so many bytes.
+fn send_full(about: Subject, four: &[u8], n: usize, total: usize, out: &mut [u8])
+    requires { PieceReady about n total (length out.old) × (length four.now ≡ fragment_bytes) }
+    ensures { out.new ≡ put out.old (n * frame_size) (image_of (Fragment about n total (data_of four.now))) }
 {
-    let start = FRAGMENT_BYTES * n;
-    let body = octets::data_from(&part[start..start + FRAGMENT_BYTES]);
-    send_piece(about, n, part.len(), body, out);
+    send_piece(about, n, total, octets::data_from(four), out);
 }
 
 // The last fragment of an attribute's bytes: the rest, at most a full one.
@@ -106,16 +104,15 @@ fn send_rest(about: Subject, part: &[u8], n: usize, out: &mut [u8])
     send_piece(about, n, part.len(), body, out);
 }
 
-// All fragments of an attribute's bytes, one behind the other: the full ones, and the rest if there is one. By number, since a loop over `part.chunks(..)`
-// takes twice the instructions of plain C for 64 frames, and this as many as it.
+// All fragments of an attribute's bytes, one behind the other: the full ones, and the rest if there is one.
 fn send_fragments(about: Subject, part: &[u8], count: usize, out: &mut [u8])
     requires { (subject_fits about ≡ true) × (length part.now ≤ 255) × (count ≡ fragment_count (length part.now)) × (least_out ≤ length out.old) }
     ensures { out.new ≡ sent (fragment_frames about part.now count) out.old }
 {
-    let full = part.len() / FRAGMENT_BYTES;
-    for n in 0..full {
-        send_full(about, part, n, out);
+    for (n, four) in part.chunks_exact(FRAGMENT_BYTES).enumerate() {
+        send_full(about, four, n, part.len(), out);
     }
+    let full = part.len() / FRAGMENT_BYTES;
     if full < count {
         send_rest(about, part, full, out);
     }

@@ -1,17 +1,20 @@
+use Prim.Native.Nat.{◌*◌}
 use mathlib.Core.Path.{ap, ◌∙◌}
-use Rattle.octets.specs.Data.{data_of}
-use Rattle.guest.specs.Step.{fragment_frame}
-use Rattle.answers.proofs.Sending.{part_tidy, full_cut}
+use Rattle.laws.specs.Put.{put}
+use Rattle.octets.specs.declared.Data.{Data}
+use Rattle.codec.specs.declared.Message.TheVariants.{Fragment}
+use Rattle.codec.specs.Names.{frame_size}
+use Rattle.codec.specs.Writing.{image_of}
+use Rattle.answers.proofs.Sending.{full_data, full_tidy}
 use Rattle.answers.proofs.answering.send_full.Goals as goal
 
 pub send_piece-requires : goal.send_piece-requires
 send_piece-requires c =
     let a = c.args in
-    let body = c.data_from-body.ensures ∙ ap data_of (full_cut a.part.now a.n) in
-    (c.requires.0, rw body (part_tidy a.part.now a.n))
+    (c.requires.0, rw (c.data_from.ensures ∙ full_data a.four.now c.requires.1) (full_tidy a.four.now c.requires.1))
 
 pub returns : goal.returns
-unfolding fragment_frame
 returns c =
     let a = c.args in
-    c.send_piece.ensures ∙ rw (c.data_from-body.ensures ∙ ap data_of (full_cut a.part.now a.n))
+    c.send_piece.ensures
+    ∙ ap (λ (d : Data). put a.out.now (a.n * frame_size) (image_of (Fragment a.about a.n a.total d))) (c.data_from.ensures ∙ full_data a.four.now c.requires.1)
