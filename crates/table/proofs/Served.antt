@@ -1,11 +1,10 @@
 -- The size by type, of a type as a value: one by its number where it is served, and none where it is not.
-use Prim.Native.Nat.{ℕ, ◌≤◌}
+use Prim.Native.Nat.{ℕ}
 use mathlib.Core.Path.{◌≡◌, refl, sym, subst}
 use mathlib.Core.Bool.{true, false}
 use lib.Dec.{eqb}
-use borrow.Author.Tests.{eqb-true, eqb-false, eq-eqb, ne_eqb}
-use native.Mathlib.Omega.{arith}
-use Rattle.std.specs.Option.{option_eq, unwrap_or}
+use borrow.Author.Tests.{eqb-true}
+use Rattle.std.specs.Option.{unwrap_or}
 use Rattle.std.proofs.Common.{Option, Some, None}
 use Rattle.laws.proofs.Tests.{split}
 use Rattle.table.specs.declared.descriptor.Kind.{Kind}
@@ -38,13 +37,6 @@ by_type s e n =
 pub described_by : (d : ℕ) (k : Option Kind) → unreserved d ≡ true → k ≡ kind_of (type_of d) → sized (descriptor_size d) ≡ size_of k (bits 6 5 d) (elements_of d)
 unfolding descriptor_size
 described_by d k u e = rw e (simp u (by_type (bits 6 5 d) (elements_of d) (type_of d)))
-
--- a length, which is not 0, as a size
-pub has_size : (n len : ℕ) → 1 ≤ len → option_eq eqb (sized n) (Some len) ≡ eqb len n
-has_size n len h =
-    split (eqb n len)
-    (λ t. let e = eqb-true n len t in simp (ne_eqb n 0 (omega (arith, e)), t, eq-eqb len n (sym e)))
-    (λ f. split (eqb n 0) (λ z. simp (z, ne_eqb len n (omega (arith, eqb-true n 0 z)))) (λ z. simp (z, f, ne_eqb len n (λ q. eqb-false n len f (sym q)))))
 
 -- a size as a value gives the number of the definition back
 pub size_back : (n : ℕ) → unwrap_or (sized n) 0 ≡ n

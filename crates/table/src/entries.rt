@@ -58,6 +58,7 @@ pub fn single_boolean(a: Attribute) -> bool
 }
 
 // Whether a network record has the size of its descriptor, and another record none.
+#[tactic(auto, using(crate::proofs::Served::size_back))]
 fn is_described(a: &Attribute) -> bool
     ensures { result ≡ described a.now }
 {
