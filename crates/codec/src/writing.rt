@@ -1,13 +1,14 @@
 // Writing: a message to the ten bytes of a record that carries it.
-ghost use Rattle.std.specs.Prelude.{◌≡◌, ◌<◌, ◌%◌, ◌&&◌, leb, true};
-ghost use Rattle.codec.specs.Names.{lowest_long};
+ghost use Rattle.std.specs.Prelude.{◌≡◌, ◌<◌, ◌%◌, ◌&&◌, ◌∷◌, leb, true, length};
+ghost use Rattle.octets.specs.Data.{places_of};
+ghost use Rattle.codec.specs.Names.{frame_size, lowest_long};
 ghost use Rattle.codec.specs.Writing.{subject_fits, carried, can_header, image_of, write_number, written_number, written_of};
-ghost use Rattle.codec.specs.Code.{prefixed, long_places, short_places, put_ten, put_long, put_short};
+ghost use Rattle.codec.specs.Code.{prefixed, put_ten, put_long, put_short};
 
 use crate::{
     FRAME_SIZE, LOWEST_LONG, MOST_ADDRESS, MOST_FRAGMENT_DATA, Message, Subject, WriteError,
 };
-use octets::{Data, is_tidy};
+use octets::{Data, is_tidy, no_data};
 
 // Whether a service has a long form that is read (000, 3.2.2.2).
 fn is_long(service: u8) -> bool
@@ -69,70 +70,64 @@ fn can_header(dir: u8, address: u8, service: u8, dlc: u8) -> [u8; 2]
     [dir % 2 * 128 + address % 128, service % 8 * 32 + dlc]
 }
 
-// The ten bytes of a long form, of its flag and what stands behind its ID. Nothing is tested: each field is cut to its bits.
-#[tactic(auto, unfolding(crate::specs::Code::long_places))]
-fn long_places(u: Subject, flag: u8, payload: Data) -> [u8; FRAME_SIZE]
-    ensures { result ≡ long_places u flag payload }
+// Puts ten bytes into a record of ten, the last six of them the places of data. One of another length stays.
+// Place by place: `copy_from_slice` of an array was tried, and packs the bytes into words first (`sds_write` of six bytes above the limit).
+fn put_ten(b0: u8, b1: u8, b2: u8, b3: u8, behind: Data, frame: &mut [u8])
+    ensures { frame.new ≡ put_ten (b0 ∷ b1 ∷ b2 ∷ b3 ∷ places_of behind) frame.old }
 {
-    let [b0, b1] = can_header(u.dir, u.address, u.service, payload.len % 8 + 2);
-    let b2 = u.response % 4 * 64 + flag % 2 * 32 + u.object % 32;
-    let [d0, d1, d2, d3, d4, d5] = octets::places_of(payload);
-    [b0, b1, b2, u.id, d0, d1, d2, d3, d4, d5]
-}
-
-// The ten bytes of a short form, each field cut to its bits.
-#[tactic(auto, unfolding(crate::specs::Code::short_places))]
-fn short_places(dir: u8, address: u8, service: u8) -> [u8; FRAME_SIZE]
-    ensures { result ≡ short_places dir address service }
-{
-    let [b0, b1] = can_header(dir, address, service, 0);
-    [b0, b1, 0, 0, 0, 0, 0, 0, 0, 0]
-}
-
-// Puts ten bytes into a record of ten. One of another length stays.
-fn put_ten(bytes: [u8; FRAME_SIZE], frame: &mut [u8])
-    ensures { frame.new ≡ put_ten bytes frame.old }
-{
-    if frame.len() == FRAME_SIZE {
-        frame.copy_from_slice(&bytes);
+    if frame.len() != FRAME_SIZE {
+        return;
     }
+    frame[0] = b0;
+    frame[1] = b1;
+    frame[2] = b2;
+    frame[3] = b3;
+    frame[4] = behind.b0;
+    frame[5] = behind.b1;
+    frame[6] = behind.b2;
+    frame[7] = behind.b3;
+    frame[8] = behind.b4;
+    frame[9] = behind.b5;
 }
 
-// Puts a long form into a record of ten bytes.
-#[tactic(auto, unfolding(crate::specs::Code::put_long))]
+// Puts a long form into a record of ten bytes, of its flag and what stands behind its ID. Nothing is tested: each field is cut to its bits.
+#[tactic(auto, unfolding(crate::specs::Code::put_long, crate::specs::Code::long_places))]
 pub fn put_long(u: Subject, flag: u8, payload: Data, frame: &mut [u8])
     ensures { frame.new ≡ put_long u flag payload frame.old }
 {
-    put_ten(long_places(u, flag, payload), frame);
+    let [b0, b1] = can_header(u.dir, u.address, u.service, payload.len % 8 + 2);
+    let b2 = u.response % 4 * 64 + flag % 2 * 32 + u.object % 32;
+    put_ten(b0, b1, b2, u.id, payload, frame);
 }
 
-// Puts a short form into a record of ten bytes.
-#[tactic(auto, unfolding(crate::specs::Code::put_short))]
+// Puts a short form into a record of ten bytes. Nothing is tested: each field is cut to its bits.
+#[tactic(auto, unfolding(crate::specs::Code::put_short, crate::specs::Code::short_places, octets::specs::Data::data_of))]
 pub fn put_short(dir: u8, address: u8, service: u8, frame: &mut [u8])
     ensures { frame.new ≡ put_short dir address service frame.old }
 {
-    put_ten(short_places(dir, address, service), frame);
+    let [b0, b1] = can_header(dir, address, service, 0);
+    put_ten(b0, b1, 0, 0, no_data(), frame);
 }
 
-// The record of a message that a readable frame carries.
-#[tactic(auto, using(crate::proofs::Images::short_image, crate::proofs::Images::plain_image, crate::proofs::Images::fragment_image))]
-fn image_of(m: Message) -> [u8; FRAME_SIZE]
-    requires { carried m ≡ true }
-    ensures { result ≡ image_of m }
+// Puts the frame that carries a message.
+#[tactic(auto, using(crate::proofs::Images::short_put, crate::proofs::Images::plain_put, crate::proofs::Images::fragment_put))]
+fn put(m: Message, frame: &mut [u8])
+    requires { (carried m ≡ true) × (length frame.old ≡ frame_size) }
+    ensures { frame.new ≡ image_of m }
 {
     match m {
         Message::Short {
             dir,
             address,
             service,
-        } => short_places(dir, address, service),
-        Message::Plain { about, body } => long_places(about, 0, body),
+        } => put_short(dir, address, service, frame),
+        Message::Plain { about, body } => put_long(about, 0, body, frame),
         Message::Fragment {
             about,
             number,
             total,
             body,
-        } => long_places(about, 1, prefixed(number, total, body)),
+        } => put_long(about, 1, prefixed(number, total, body), frame),
     }
 }
 
@@ -147,6 +142,6 @@ pub fn write(m: Message, frame: &mut [u8]) -> Result<(), WriteError>
     if !carried(m) {
         return Err(WriteError::Unfit);
     }
-    frame.copy_from_slice(&image_of(m));
+    put(m, frame);
     Ok(())
 }

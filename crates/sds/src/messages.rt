@@ -1,25 +1,14 @@
 // A message as the 16 bytes that C lends.
-ghost use Rattle.std.specs.Prelude.{◌≡◌, if◌then◌else◌, Some, None};
+ghost use Rattle.std.specs.Prelude.{◌≡◌, length, if◌then◌else◌, Some, None};
 ghost use Rattle.codec.specs.Reading.{number_of, numbered};
 ghost use Rattle.codec.specs.Writing.{written_number};
-ghost use Rattle.sds.specs.Border.{long_bytes, short_subject, message_bytes, subject_at, data_at, message_at, bordered, border_read_number, border_read, border_write_number, border_write};
+ghost use Rattle.sds.specs.Border.{message_size, long_bytes, short_subject, message_bytes, subject_at, data_at, message_at, bordered, border_read_number, border_read, border_write_number, border_write};
 
 use codec::{FRAME_SIZE, Message, ReadError, Subject, WriteError};
 use octets::{Data, byte_at, zeros};
 
 // The bytes of a message.
 const MESSAGE: usize = 16;
-
-// The places of a message, of its kind's number in C.
-#[tactic(auto, unfolding(crate::specs::Border::long_bytes))]
-fn long_bytes(kind: u8, u: Subject, number: u8, total: u8, b: Data) -> [u8; MESSAGE]
-    ensures { result ≡ long_bytes kind u number total b }
-{
-    [
-        kind, u.dir, u.address, u.service, u.response, u.object, u.id, number, total, b.len, b.b0,
-        b.b1, b.b2, b.b3, b.b4, b.b5,
-    ]
-}
 
 // The subject of a short message, which has no response, object and ID.
 fn short_subject(dir: u8, address: u8, service: u8) -> Subject
@@ -35,10 +24,34 @@ fn short_subject(dir: u8, address: u8, service: u8) -> Subject
     }
 }
 
-// The 16 bytes of a message.
+// Puts the 16 bytes of a message, place by place, of its kind's number in C.
+fn put_places(kind: u8, u: Subject, number: u8, total: u8, b: Data, message: &mut [u8])
+    requires { length message.old ≡ message_size }
+    ensures { message.new ≡ long_bytes kind u number total b }
+{
+    message[0] = kind;
+    message[1] = u.dir;
+    message[2] = u.address;
+    message[3] = u.service;
+    message[4] = u.response;
+    message[5] = u.object;
+    message[6] = u.id;
+    message[7] = number;
+    message[8] = total;
+    message[9] = b.len;
+    message[10] = b.b0;
+    message[11] = b.b1;
+    message[12] = b.b2;
+    message[13] = b.b3;
+    message[14] = b.b4;
+    message[15] = b.b5;
+}
+
+// Puts the 16 bytes of a message.
 #[tactic(auto, unfolding(crate::specs::Border::message_bytes))]
-fn message_bytes(m: Message) -> [u8; MESSAGE]
-    ensures { result ≡ message_bytes m }
+fn put_message(m: Message, message: &mut [u8])
+    requires { length message.old ≡ message_size }
+    ensures { message.new ≡ message_bytes m }
 {
     match m {
         Message::Short {
@@ -47,15 +60,15 @@ fn message_bytes(m: Message) -> [u8; MESSAGE]
             service,
         } => {
             let about = short_subject(dir, address, service);
-            long_bytes(0, about, 0, 0, octets::no_data())
+            put_places(0, about, 0, 0, octets::no_data(), message)
         }
-        Message::Plain { about, body } => long_bytes(1, about, 0, 0, body),
+        Message::Plain { about, body } => put_places(1, about, 0, 0, body, message),
         Message::Fragment {
             about,
             number,
             total,
             body,
-        } => long_bytes(2, about, number, total, body),
+        } => put_places(2, about, number, total, body, message),
     }
 }
 
@@ -93,22 +106,20 @@ fn data_at(message: &[u8]) -> Data
 fn message_at(message: &[u8]) -> Option<Message>
     ensures { result ≡ if bordered message.now then Some (message_at message.now) else None }
 {
-    let number = byte_at(message, 7);
-    let total = byte_at(message, 8);
     match byte_at(message, 0) {
         0 if zeros(message.get(4..).unwrap_or(&[])) => Some(Message::Short {
             dir: byte_at(message, 1),
             address: byte_at(message, 2),
             service: byte_at(message, 3),
         }),
-        1 if number == 0 && total == 0 => Some(Message::Plain {
+        1 if byte_at(message, 7) == 0 && byte_at(message, 8) == 0 => Some(Message::Plain {
             about: subject_at(message),
             body: data_at(message),
         }),
         2 => Some(Message::Fragment {
             about: subject_at(message),
-            number,
-            total,
+            number: byte_at(message, 7),
+            total: byte_at(message, 8),
             body: data_at(message),
         }),
         _ => None,
@@ -124,7 +135,7 @@ pub(crate) fn read_into(frame: &[u8], message: &mut [u8]) -> Result<(), ReadErro
         return Err(ReadError::Size);
     }
     let m = codec::read(frame)?;
-    message.copy_from_slice(&message_bytes(m));
+    put_message(m, message);
     Ok(())
 }
 
