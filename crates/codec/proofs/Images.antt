@@ -1,7 +1,7 @@
 -- The ten bytes of a written record, one by one.
 use Prim.Native.Nat.{ℕ, suc, ◌+◌, ◌-◌, ◌%◌, ◌≤◌}
 use mathlib.Core.Path.{◌≡◌, refl, sym, ap, ◌∙◌}
-use mathlib.Core.Bool.{true, and-eq-true_iff}
+use mathlib.Core.Bool.{true, ◌&&◌, and-eq-true_iff}
 use mathlib.Core.List.{List, ◌∷◌, ◌++◌}
 use native.Mathlib.Omega.{arith}
 use lib.ListN.{length, drop, length-drop}
@@ -16,7 +16,7 @@ use Rattle.codec.specs.declared.Subject.{Subject}
 use Rattle.codec.specs.declared.Message.TheVariants.{Short, Plain, Fragment}
 use Rattle.codec.specs.Names.{frame_size, most_dlc, most_fragment_data}
 use Rattle.codec.specs.Reading.{payload_to}
-use Rattle.codec.specs.Writing.{subject_fits, short_fits, carried, long_header, long_frame, frame_of, image_of}
+use Rattle.codec.specs.Writing.{subject_fits, short_fits, carried, long_header, long_frame, frame_of, image_of, write_number, written_of}
 use Rattle.codec.specs.Code.{payload_in, prefixed, unprefixed, cut_of, long_places, short_places, put_long, put_short}
 use Rattle.codec.proofs.Fits.{subject_fits_lem, short_fits_lem}
 
@@ -125,3 +125,10 @@ module _ (r : List ℕ) (ten : length r ≡ frame_size) where
       let w = fragment_payload n total b f.1 in
       simp (eq-eqb (length r) frame_size ten, prefixed_is n total b f.1)
       (places_are_image u 1 _ f.0 (omega arith) w.0 ∙ ap (λ (p : List ℕ). padded frame_size (long_frame u 1 p)) w.1)
+
+  pub fragment_written : (u : Subject) (n total : ℕ) (b : Data) → true ≡ (subject_fits u && tidy most_fragment_data b) → (x : List ℕ)
+      → x ≡ put_long u 1 (prefixed n total b) r → (0 ≡ write_number (Fragment u n total b) r) × (x ≡ written_of (Fragment u n total b) r)
+  unfolding carried write_number written_of
+  fragment_written u n total b e x q =
+      let s = eq-eqb (length r) frame_size ten in
+      (simp (s, ← e), q ∙ fragment_put u n total b (sym e) ∙ simp (s, ← e))

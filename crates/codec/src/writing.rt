@@ -1,8 +1,8 @@
 // Writing: a message to the ten bytes of a record that carries it.
-ghost use Rattle.std.specs.Prelude.{◌≡◌, ◌<◌, ◌%◌, ◌&&◌, ◌∷◌, leb, true, length};
-ghost use Rattle.octets.specs.Data.{places_of};
-ghost use Rattle.codec.specs.Names.{frame_size, lowest_long};
-ghost use Rattle.codec.specs.Writing.{subject_fits, carried, can_header, image_of, write_number, written_number, written_of};
+ghost use Rattle.std.specs.Prelude.{◌≡◌, ◌<◌, ◌%◌, ◌&&◌, ◌∷◌, leb};
+ghost use Rattle.octets.specs.Data.{places_of, tidy};
+ghost use Rattle.codec.specs.Names.{lowest_long};
+ghost use Rattle.codec.specs.Writing.{subject_fits, short_fits, can_header, write_number, written_number, written_of};
 ghost use Rattle.codec.specs.Code.{prefixed, put_ten, put_long, put_short};
 
 use crate::{
@@ -28,22 +28,17 @@ fn subject_fits(u: Subject) -> bool
         && u.object <= 31
 }
 
-// Whether some readable frame carries the message.
-#[tactic(auto, unfolding(crate::specs::Writing::carried, crate::specs::Writing::short_fits))]
-fn carried(m: Message) -> bool
-    ensures { result ≡ carried m }
+fn long_fits(u: Subject, most: u8, d: Data) -> bool
+    ensures { result ≡ subject_fits u && tidy most d }
 {
-    match m {
-        Message::Short {
-            dir,
-            address,
-            service,
-        } => dir <= 1 && address <= MOST_ADDRESS && service <= 7,
-        Message::Plain { about, body } => subject_fits(about) && is_tidy(octets::MOST, body),
-        Message::Fragment { about, body, .. } => {
-            subject_fits(about) && is_tidy(MOST_FRAGMENT_DATA, body)
-        }
-    }
+    subject_fits(u) && is_tidy(most, d)
+}
+
+#[tactic(auto, unfolding(crate::specs::Writing::short_fits))]
+fn short_fits(dir: u8, address: u8, service: u8) -> bool
+    ensures { result ≡ short_fits dir address service }
+{
+    dir <= 1 && address <= MOST_ADDRESS && service <= 7
 }
 
 // What stands behind a fragment's ID: its number, the total byte count, then the data.
@@ -109,39 +104,32 @@ pub fn put_short(dir: u8, address: u8, service: u8, frame: &mut [u8])
     put_ten(b0, b1, 0, 0, no_data(), frame);
 }
 
-// Puts the frame that carries a message.
-#[tactic(auto, using(crate::proofs::Images::short_put, crate::proofs::Images::plain_put, crate::proofs::Images::fragment_put))]
-fn put(m: Message, frame: &mut [u8])
-    requires { (carried m ≡ true) × (length frame.old ≡ frame_size) }
-    ensures { frame.new ≡ image_of m }
-{
-    match m {
-        Message::Short {
-            dir,
-            address,
-            service,
-        } => put_short(dir, address, service, frame),
-        Message::Plain { about, body } => put_long(about, 0, body, frame),
-        Message::Fragment {
-            about,
-            number,
-            total,
-            body,
-        } => put_long(about, 1, prefixed(number, total, body), frame),
-    }
-}
-
 // Writes the record that carries a message, or says why not, and the record stays.
-#[tactic(auto, unfolding(crate::specs::Writing::write_number, crate::specs::Writing::written_of))]
+#[tactic(auto, using(crate::proofs::Images::short_put, crate::proofs::Images::plain_put, crate::proofs::Images::fragment_put), unfolding(crate::specs::Writing::write_number, crate::specs::Writing::written_of, crate::specs::Writing::carried))]
 pub fn write(m: Message, frame: &mut [u8]) -> Result<(), WriteError>
     ensures { (written_number result ≡ write_number m frame.old) × (frame.new ≡ written_of m frame.old) }
 {
     if frame.len() != FRAME_SIZE {
         return Err(WriteError::Size);
     }
-    if !carried(m) {
-        return Err(WriteError::Unfit);
+    match m {
+        Message::Short {
+            dir,
+            address,
+            service,
+        } if short_fits(dir, address, service) => put_short(dir, address, service, frame),
+        Message::Plain { about, body } if long_fits(about, octets::MOST, body) => {
+            put_long(about, 0, body, frame)
+        }
+        Message::Fragment {
+            about,
+            number,
+            total,
+            body,
+        } if long_fits(about, MOST_FRAGMENT_DATA, body) => {
+            put_long(about, 1, prefixed(number, total, body), frame)
+        }
+        _ => return Err(WriteError::Unfit),
     }
-    put(m, frame);
     Ok(())
 }

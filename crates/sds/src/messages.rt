@@ -24,7 +24,8 @@ fn short_subject(dir: u8, address: u8, service: u8) -> Subject
     }
 }
 
-// Puts the 16 bytes of a message, place by place, of its kind's number in C.
+// Puts the 16 bytes of a message, of its kind's number in C. Place by place: an array that is copied whole was tried, and its bytes are packed into
+// words first (`sds_read` of two bytes above the limit).
 fn put_places(kind: u8, u: Subject, number: u8, total: u8, b: Data, message: &mut [u8])
     requires { length message.old ≡ message_size }
     ensures { message.new ≡ long_bytes kind u number total b }
