@@ -1,8 +1,9 @@
 // A message as the 16 bytes that C lends.
-ghost use Rattle.std.specs.Prelude.{◌≡◌, length, if◌then◌else◌, Some, None};
+ghost use Rattle.std.specs.Prelude.{◌≡◌, ◌&&◌, eqb, length, drop};
+ghost use Rattle.laws.specs.Bytes.{byte_at, zeros};
 ghost use Rattle.codec.specs.Reading.{number_of, numbered};
 ghost use Rattle.codec.specs.Writing.{written_number};
-ghost use Rattle.sds.specs.Border.{message_size, long_bytes, short_subject, message_bytes, subject_at, data_at, message_at, bordered, border_read_number, border_read, border_write_number, border_write};
+ghost use Rattle.sds.specs.Border.{message_size, long_bytes, short_subject, message_bytes, subject_at, data_at, message_in, border_read_number, border_read, border_write_number, border_write};
 
 use codec::{FRAME_SIZE, Message, ReadError, Subject, WriteError};
 use octets::{Data, byte_at, zeros};
@@ -102,18 +103,32 @@ fn data_at(message: &[u8]) -> Data
     }
 }
 
+// Whether a message has nothing behind its service.
+fn only_short(message: &[u8]) -> bool
+    ensures { result ≡ zeros (drop 4 message.now) }
+{
+    zeros(message.get(4..).unwrap_or(&[]))
+}
+
+// Whether a message has neither fragment number nor total.
+fn unnumbered(message: &[u8]) -> bool
+    ensures { result ≡ (eqb (byte_at message.now 7) 0 && eqb (byte_at message.now 8) 0) }
+{
+    byte_at(message, 7) == 0 && byte_at(message, 8) == 0
+}
+
 // The message of 16 bytes, by the number of their kind. There is none of another kind, or where a place that its kind does not use is not 0.
 #[tactic(auto, unfolding(crate::specs::Border::message_at, crate::specs::Border::bordered))]
 fn message_at(message: &[u8]) -> Option<Message>
-    ensures { result ≡ if bordered message.now then Some (message_at message.now) else None }
+    ensures { result ≡ message_in message.now }
 {
     match byte_at(message, 0) {
-        0 if zeros(message.get(4..).unwrap_or(&[])) => Some(Message::Short {
+        0 if only_short(message) => Some(Message::Short {
             dir: byte_at(message, 1),
             address: byte_at(message, 2),
             service: byte_at(message, 3),
         }),
-        1 if byte_at(message, 7) == 0 && byte_at(message, 8) == 0 => Some(Message::Plain {
+        1 if unnumbered(message) => Some(Message::Plain {
             about: subject_at(message),
             body: data_at(message),
         }),
