@@ -1,7 +1,7 @@
 -- The ten bytes of a written record, one by one.
 use Prim.Native.Nat.{ℕ, suc, ◌+◌, ◌-◌, ◌%◌, ◌≤◌}
 use mathlib.Core.Path.{◌≡◌, refl, sym, ap, ◌∙◌}
-use mathlib.Core.Bool.{true, and-eq-true_iff}
+use mathlib.Core.Bool.{true, ◌&&◌, and-eq-true_iff}
 use mathlib.Core.List.{List, ◌∷◌, ◌++◌}
 use native.Mathlib.Omega.{arith}
 use lib.ListN.{length, drop, length-drop}
@@ -16,8 +16,8 @@ use Rattle.codec.specs.declared.Subject.{Subject}
 use Rattle.codec.specs.declared.Message.TheVariants.{Short, Plain, Fragment}
 use Rattle.codec.specs.Names.{frame_size, most_dlc, most_fragment_data}
 use Rattle.codec.specs.Reading.{payload_to}
-use Rattle.codec.specs.Writing.{subject_fits, short_fits, carried, long_header, long_frame, frame_of, image_of}
-use Rattle.codec.specs.Code.{payload_in, prefixed, unprefixed, cut_of, long_places, short_places}
+use Rattle.codec.specs.Writing.{subject_fits, short_fits, carried, long_header, long_frame, frame_of, image_of, write_number, written_of}
+use Rattle.codec.specs.Code.{payload_in, prefixed, unprefixed, cut_of, long_places, short_places, put_long, put_short}
 use Rattle.codec.proofs.Fits.{subject_fits_lem, short_fits_lem}
 
 -- four bytes, then what stands behind the ID, padded
@@ -104,23 +104,31 @@ pub payload_is : (dlc : ℕ) (r : List ℕ) → length r ≡ frame_size → dlc 
 unfolding payload_in
 payload_is dlc r ten most = simp (eq-eqb (length r) frame_size ten, le-leb dlc most_dlc most)
 
--- ---- the record of a message that fits, as the code makes it
+-- ---- what is put of a message that fits is the record of its frame
 
-pub short_image : (dir address service : ℕ) → carried (Short dir address service) ≡ true
-    → short_places dir address service ≡ image_of (Short dir address service)
-unfolding carried
-short_image dir address service e = short_places_are_image dir address service e
+module _ (r : List ℕ) (ten : length r ≡ frame_size) where
+  pub short_put : (dir address service : ℕ) → carried (Short dir address service) ≡ true → put_short dir address service r ≡ image_of (Short dir address service)
+  unfolding carried put_short
+  short_put dir address service e = simp (eq-eqb (length r) frame_size ten) (short_places_are_image dir address service e)
 
-pub plain_image : (u : Subject) (b : Data) → carried (Plain u b) ≡ true → long_places u 0 b ≡ image_of (Plain u b)
-unfolding carried image_of frame_of
-plain_image u b e =
-    let f = (and-eq-true_iff (subject_fits u) (tidy most_data b)).0 e in
-    places_are_image u 0 b f.0 (omega arith) f.1
+  pub plain_put : (u : Subject) (b : Data) → carried (Plain u b) ≡ true → put_long u 0 b r ≡ image_of (Plain u b)
+  unfolding carried image_of frame_of put_long
+  plain_put u b e =
+      let f = (and-eq-true_iff (subject_fits u) (tidy most_data b)).0 e in
+      simp (eq-eqb (length r) frame_size ten) (places_are_image u 0 b f.0 (omega arith) f.1)
 
-pub fragment_image : (u : Subject) (n total : ℕ) (b : Data) → carried (Fragment u n total b) ≡ true
-    → long_places u 1 (prefixed n total b) ≡ image_of (Fragment u n total b)
-unfolding carried image_of frame_of
-fragment_image u n total b e =
-    let f = (and-eq-true_iff (subject_fits u) (tidy most_fragment_data b)).0 e in
-    let w = fragment_payload n total b f.1 in
-    rw (prefixed_is n total b f.1) (places_are_image u 1 _ f.0 (omega arith) w.0 ∙ ap (λ (p : List ℕ). padded frame_size (long_frame u 1 p)) w.1)
+  pub fragment_put : (u : Subject) (n total : ℕ) (b : Data) → carried (Fragment u n total b) ≡ true
+      → put_long u 1 (prefixed n total b) r ≡ image_of (Fragment u n total b)
+  unfolding carried image_of frame_of put_long
+  fragment_put u n total b e =
+      let f = (and-eq-true_iff (subject_fits u) (tidy most_fragment_data b)).0 e in
+      let w = fragment_payload n total b f.1 in
+      simp (eq-eqb (length r) frame_size ten, prefixed_is n total b f.1)
+      (places_are_image u 1 _ f.0 (omega arith) w.0 ∙ ap (λ (p : List ℕ). padded frame_size (long_frame u 1 p)) w.1)
+
+  pub fragment_written : (u : Subject) (n total : ℕ) (b : Data) → true ≡ (subject_fits u && tidy most_fragment_data b) → (x : List ℕ)
+      → x ≡ put_long u 1 (prefixed n total b) r → (0 ≡ write_number (Fragment u n total b) r) × (x ≡ written_of (Fragment u n total b) r)
+  unfolding carried write_number written_of
+  fragment_written u n total b e x q =
+      let s = eq-eqb (length r) frame_size ten in
+      (simp (s, ← e), q ∙ fragment_put u n total b (sym e) ∙ simp (s, ← e))

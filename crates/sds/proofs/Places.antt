@@ -1,7 +1,7 @@
 -- The 16 bytes of a message, place by place; and what reading leaves there.
 use Prim.Native.Nat.{ℕ}
 use mathlib.Core.Path.{◌≡◌, sym, ap, ◌∙◌}
-use mathlib.Core.Bool.{true, and-eq-true_iff}
+use mathlib.Core.Bool.{◌&&◌, true, and-eq-true_iff}
 use mathlib.Core.List.{List, ◌∷◌, ◌++◌}
 use native.Mathlib.Omega.{arith}
 use lib.ListN.{length, drop, replicate, length-drop, drop_of_length-le}
@@ -11,7 +11,9 @@ use Rattle.laws.specs.Bytes.{byte_at}
 use Rattle.laws.proofs.Tests.{split}
 use Rattle.laws.proofs.Bytes.{zeros_are, places, places_back}
 use Rattle.octets.specs.Data.{data_of}
-use Rattle.sds.specs.Border.{long_bytes, message_bytes, subject_at, data_at, message_at, bordered}
+use Rattle.std.specs.Prelude.{Some}
+use Rattle.codec.specs.declared.Message.TheVariants.{Plain, Fragment}
+use Rattle.sds.specs.Border.{message_in, long_bytes, message_bytes, subject_at, data_at, message_at, bordered}
 
 -- sixteen bytes, one by one, or the first four of them
 module _ (l : List ℕ) (n : length l ≡ 16) where
@@ -46,3 +48,12 @@ module _ (l : List ℕ) (n : length l ≡ 16) where
       (λ g.
       let kind = eqb-true (byte_at l 0) 2 (simp (f, g) at b) in
       simp (f, g) (ap (λ (j : ℕ). j ∷ places 15 1 l) (sym kind) ∙ all_places)))
+
+-- the message of a whole one's bytes and of a fragment's, as the code takes them apart
+pub plain_in : (l : List ℕ) → byte_at l 0 ≡ 1 → (eqb (byte_at l 7) 0 && eqb (byte_at l 8) 0) ≡ true → Some (Plain (subject_at l) (data_at l)) ≡ message_in l
+unfolding bordered message_at
+plain_in l k u = simp (k, u)
+
+pub fragment_in : (l : List ℕ) → byte_at l 0 ≡ 2 → Some (Fragment (subject_at l) (byte_at l 7) (byte_at l 8) (data_at l)) ≡ message_in l
+unfolding bordered message_at
+fragment_in l k = simp k

@@ -1,5 +1,5 @@
 -- What C sees: a message as 16 bytes, and what each entry point answers.
-use Rattle.std.specs.Prelude.{ℕ, ◌+◌, ◌*◌, Bool, cond, not, ◌&&◌, ◌||◌, List, [], ◌∷◌, length, drop, eqb, ltb, Result, Ok, Err}
+use Rattle.std.specs.Prelude.{ℕ, ◌+◌, ◌*◌, Bool, cond, not, ◌&&◌, ◌||◌, List, [], ◌∷◌, length, drop, eqb, ltb, Result, Ok, Err, Option, Some, None, if◌then◌else◌}
 use Rattle.std.proofs.Math.Path.{refl}
 use Rattle.laws.specs.Bytes.{byte_at, zeros}
 use Rattle.laws.specs.Checks.{Check, first_of}
@@ -66,6 +66,10 @@ unfoldable pub bordered : List ℕ → Bool
 bordered l =
     cond (eqb (byte_at l 0) 0) (zeros (drop 4 l))
     (cond (eqb (byte_at l 0) 1) (eqb (byte_at l 7) 0 && eqb (byte_at l 8) 0) (eqb (byte_at l 0) 2))
+
+-- the message of 16 bytes, where they are a message's
+abbrev pub message_in : List ℕ → Option Message
+message_in l = if bordered l then Some (message_at l) else None
 
 -- reading: 1 where the message buffer has another length, else the codec's number
 unfoldable pub border_read_number : List ℕ → List ℕ → ℕ

@@ -1,26 +1,15 @@
 // A message as the 16 bytes that C lends.
-ghost use Rattle.std.specs.Prelude.{◌≡◌, if◌then◌else◌, Some, None};
+ghost use Rattle.std.specs.Prelude.{◌≡◌, ◌&&◌, eqb, length, drop};
+ghost use Rattle.laws.specs.Bytes.{byte_at, zeros};
 ghost use Rattle.codec.specs.Reading.{number_of, numbered};
 ghost use Rattle.codec.specs.Writing.{written_number};
-ghost use Rattle.sds.specs.Border.{long_bytes, short_subject, message_bytes, subject_at, data_at, message_at, bordered, border_read_number, border_read, border_write_number, border_write};
+ghost use Rattle.sds.specs.Border.{message_size, long_bytes, short_subject, message_bytes, subject_at, data_at, message_in, border_read_number, border_read, border_write_number, border_write};
 
 use codec::{FRAME_SIZE, Message, ReadError, Subject, WriteError};
 use octets::{Data, byte_at, zeros};
 
 // The bytes of a message.
 const MESSAGE: usize = 16;
-
-// The places of a message, of its kind's number in C.
-#[tactic(auto, unfolding(crate::specs::Border::long_bytes))]
-fn long_bytes(kind: u8, u: Subject, number: u8, total: u8, b: Data) -> [u8; MESSAGE]
-    ensures { result ≡ long_bytes kind u number total b }
-{
-    let [b0, b1, b2, b3, b4, b5] = b.places;
-    [
-        kind, u.dir, u.address, u.service, u.response, u.object, u.id, number, total, b.len, b0,
-        b1, b2, b3, b4, b5,
-    ]
-}
 
 // The subject of a short message, which has no response, object and ID.
 fn short_subject(dir: u8, address: u8, service: u8) -> Subject
@@ -36,10 +25,24 @@ fn short_subject(dir: u8, address: u8, service: u8) -> Subject
     }
 }
 
-// The 16 bytes of a message.
+// Puts the 16 bytes of a message, of its kind's number in C.
+#[tactic(auto, unfolding(crate::specs::Border::long_bytes))]
+fn put_places(kind: u8, u: Subject, number: u8, total: u8, b: Data, message: &mut [u8])
+    requires { length message.old ≡ message_size }
+    ensures { message.new ≡ long_bytes kind u number total b }
+{
+    let front = [
+        kind, u.dir, u.address, u.service, u.response, u.object, u.id, number, total, b.len,
+    ];
+    octets::copy(&front, message);
+    octets::copy(&b.places, &mut message[front.len()..]);
+}
+
+// Puts the 16 bytes of a message.
 #[tactic(auto, unfolding(crate::specs::Border::message_bytes))]
-fn message_bytes(m: Message) -> [u8; MESSAGE]
-    ensures { result ≡ message_bytes m }
+fn put_message(m: Message, message: &mut [u8])
+    requires { length message.old ≡ message_size }
+    ensures { message.new ≡ message_bytes m }
 {
     match m {
         Message::Short {
@@ -48,15 +51,15 @@ fn message_bytes(m: Message) -> [u8; MESSAGE]
             service,
         } => {
             let about = short_subject(dir, address, service);
-            long_bytes(0, about, 0, 0, octets::no_data())
+            put_places(0, about, 0, 0, octets::no_data(), message)
         }
-        Message::Plain { about, body } => long_bytes(1, about, 0, 0, body),
+        Message::Plain { about, body } => put_places(1, about, 0, 0, body, message),
         Message::Fragment {
             about,
             number,
             total,
             body,
-        } => long_bytes(2, about, number, total, body),
+        } => put_places(2, about, number, total, body, message),
     }
 }
 
@@ -91,27 +94,39 @@ fn data_at(message: &[u8]) -> Data
     }
 }
 
+// Whether a message has nothing behind its service.
+fn only_short(message: &[u8]) -> bool
+    ensures { result ≡ zeros (drop 4 message.now) }
+{
+    zeros(message.get(4..).unwrap_or(&[]))
+}
+
+// Whether a message has neither fragment number nor total.
+fn unnumbered(message: &[u8]) -> bool
+    ensures { result ≡ (eqb (byte_at message.now 7) 0 && eqb (byte_at message.now 8) 0) }
+{
+    byte_at(message, 7) == 0 && byte_at(message, 8) == 0
+}
+
 // The message of 16 bytes, by the number of their kind. There is none of another kind, or where a place that its kind does not use is not 0.
 #[tactic(auto, unfolding(crate::specs::Border::message_at, crate::specs::Border::bordered))]
 fn message_at(message: &[u8]) -> Option<Message>
-    ensures { result ≡ if bordered message.now then Some (message_at message.now) else None }
+    ensures { result ≡ message_in message.now }
 {
-    let number = byte_at(message, 7);
-    let total = byte_at(message, 8);
     match byte_at(message, 0) {
-        0 if zeros(message.get(4..).unwrap_or(&[])) => Some(Message::Short {
+        0 if only_short(message) => Some(Message::Short {
             dir: byte_at(message, 1),
             address: byte_at(message, 2),
             service: byte_at(message, 3),
         }),
-        1 if number == 0 && total == 0 => Some(Message::Plain {
+        1 if unnumbered(message) => Some(Message::Plain {
             about: subject_at(message),
             body: data_at(message),
         }),
         2 => Some(Message::Fragment {
             about: subject_at(message),
-            number,
-            total,
+            number: byte_at(message, 7),
+            total: byte_at(message, 8),
             body: data_at(message),
         }),
         _ => None,
@@ -127,7 +142,7 @@ pub(crate) fn read_into(frame: &[u8], message: &mut [u8]) -> Result<(), ReadErro
         return Err(ReadError::Size);
     }
     let m = codec::read(frame)?;
-    message.copy_from_slice(&message_bytes(m));
+    put_message(m, message);
     Ok(())
 }
 
