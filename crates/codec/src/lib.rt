@@ -31,6 +31,8 @@ pub const MOST_FRAGMENT_DATA: u8 = octets::MOST - 2;
 // The lowest service type of a long form that the codec reads (01, "Frame record").
 pub const LOWEST_LONG: u8 = 4;
 
+// Kinds of services and responses are numbers and no enum: a field of a header, whose any value is kept (`header_of`), is compared with one of them or
+// told in words, and an enum would be turned back to its number at each place.
 // Short form service types (000, figure 3.4).
 pub const CHANGE_OFF: u8 = 0;
 
