@@ -39,7 +39,7 @@ impl Work for Import {
     // Each line that ends in these bytes is finished, and the front of the last one is held.
     fn take(&mut self, block: &[u8], out: &mut Output) {
         for part in block.split_inclusive(|c| *c == candump::LINE_FEED) {
-            match part.strip_suffix(b"\n") {
+            match part.strip_suffix(&[candump::LINE_FEED]) {
                 Some(end) => {
                     self.held.append(end);
                     self.finish_line(out);

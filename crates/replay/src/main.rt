@@ -12,6 +12,7 @@ use std::io::{Read, Stdin};
 const RECORD: usize = codec::FRAME_SIZE;
 
 // How many bytes of the next record came, and stand at the front: all of them unless the input ends before. A read that fails counts as the input's end.
+// Where the input ends before the record does, std's `read_exact` does not say how many came, and the device is to answer them.
 fn read_record(from: Stdin, record: &mut [u8; RECORD]) -> usize
     ensures { result ≤ frame_size }
 {
