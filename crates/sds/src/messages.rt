@@ -26,16 +26,26 @@ fn short_subject(dir: u8, address: u8, service: u8) -> Subject
 }
 
 // Puts the 16 bytes of a message, of its kind's number in C.
-#[tactic(auto, unfolding(crate::specs::Border::long_bytes))]
 fn put_places(kind: u8, u: Subject, number: u8, total: u8, b: Data, message: &mut [u8])
     requires { length message.old ≡ message_size }
     ensures { message.new ≡ long_bytes kind u number total b }
 {
-    let front = [
-        kind, u.dir, u.address, u.service, u.response, u.object, u.id, number, total, b.len,
-    ];
-    octets::copy(&front, message);
-    octets::copy(&b.places, &mut message[front.len()..]);
+    message[0] = kind;
+    message[1] = u.dir;
+    message[2] = u.address;
+    message[3] = u.service;
+    message[4] = u.response;
+    message[5] = u.object;
+    message[6] = u.id;
+    message[7] = number;
+    message[8] = total;
+    message[9] = b.len;
+    message[10] = b.places[0];
+    message[11] = b.places[1];
+    message[12] = b.places[2];
+    message[13] = b.places[3];
+    message[14] = b.places[4];
+    message[15] = b.places[5];
 }
 
 // Puts the 16 bytes of a message.
