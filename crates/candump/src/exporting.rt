@@ -49,6 +49,7 @@ fn put_digits(bytes: &[u8], places: &mut [u8])
     requires room { 2 * length bytes.now ≤ length places.old }
     ensures { places.new ≡ hex_of bytes.now ++ drop (2 * length bytes.now) places.old }
 {
+    // written by index: of bytes that `chunks_exact_mut` lends a proof knows their count alone
     for (i, byte) in bytes.iter().enumerate() {
         places[2 * i] = digit(byte / 16);
         places[2 * i + 1] = digit(byte % 16);

@@ -90,6 +90,7 @@ fn bytes_of(body: &[u8]) -> Option<[u8; MOST_BYTES]>
         return None;
     }
     let mut bytes = [0; MOST_BYTES];
+    // written by index: of bytes that `iter_mut` lends a proof knows their count alone
     for (i, pair) in body.chunks_exact(2).enumerate() {
         bytes[i] = hex_value(pair[0])? * 16 + hex_value(pair[1])?;
     }

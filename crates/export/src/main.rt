@@ -5,6 +5,7 @@
 
 use pipes::{Buffer, Output, Work};
 use std::io::Stderr;
+use std::mem;
 
 const RECORD: usize = codec::FRAME_SIZE;
 
@@ -18,9 +19,9 @@ struct Export {
 
 impl Export {
     // A record is whole, or the input has ended: sends its line, or tells why it is refused.
-    fn finish_record(&mut self, out: &mut Output) {
+    fn finish_record(&mut self, record: &[u8], out: &mut Output) {
         self.records = pipes::next(self.records);
-        match candump::export_record(self.held.held()) {
+        match candump::export_record(record) {
             Ok(line) => {
                 out.send(line.text());
                 out.send(b"\n");
@@ -33,7 +34,12 @@ impl Export {
                 &refusal,
             ),
         }
-        self.held.used = 0;
+    }
+
+    // What is held is finished, and nothing is held then.
+    fn finish_held(&mut self, out: &mut Output) {
+        let held = mem::replace(&mut self.held, Buffer::new());
+        self.finish_record(held.held(), out);
     }
 }
 
@@ -46,12 +52,11 @@ impl Work for Export {
             return;
         };
         self.held.append(first);
-        self.finish_record(out);
+        self.finish_held(out);
         let records = rest.chunks_exact(RECORD);
         let behind = records.remainder();
         for record in records {
-            self.held.append(record);
-            self.finish_record(out);
+            self.finish_record(record, out);
         }
         self.held.append(behind);
     }
@@ -59,7 +64,7 @@ impl Work for Export {
     // What is left of a record.
     fn end(&mut self, out: &mut Output) {
         if self.held.used > 0 {
-            self.finish_record(out);
+            self.finish_held(out);
         }
     }
 }
