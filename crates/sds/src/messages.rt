@@ -1,8 +1,7 @@
 // A message as the 16 bytes that C lends.
 ghost use Rattle.std.specs.Prelude.{◌≡◌, ◌&&◌, eqb, length, drop};
 ghost use Rattle.laws.specs.Bytes.{byte_at, zeros};
-ghost use Rattle.laws.specs.Checks.{first_of};
-ghost use Rattle.codec.specs.Reading.{read_checks, message_of, number_of, numbered};
+ghost use Rattle.codec.specs.Reading.{number_of, numbered};
 ghost use Rattle.codec.specs.Writing.{written_number};
 ghost use Rattle.sds.specs.Border.{message_size, long_bytes, short_subject, message_bytes, subject_at, data_at, message_in, border_read_number, border_read, border_write_number, border_write};
 
@@ -144,30 +143,16 @@ fn message_at(message: &[u8]) -> Option<Message>
     }
 }
 
-// Puts the message of a record that is read. Out of line, so that a refusal saves no registers.
-#[inline(never)]
-#[tactic(auto, unfolding(codec::specs::Reading::read_of))]
-fn put_readable(frame: &[u8], message: &mut [u8])
-    requires readable { first_of (read_checks frame.now) ≡ 0 }
-    requires room { length message.old ≡ message_size }
-    ensures { message.new ≡ message_bytes (message_of frame.now) }
-{
-    let Ok(m) = codec::read(frame) else {
-        unreachable!()
-    };
-    put_message(m, message);
-}
-
 // Reads a record into the bytes of a message, which stay where it is refused.
-#[tactic(auto, unfolding(crate::specs::Border::border_read_number, crate::specs::Border::border_read, codec::specs::Reading::read_of))]
+#[tactic(auto, unfolding(crate::specs::Border::border_read_number, crate::specs::Border::border_read))]
 pub(crate) fn read_into(frame: &[u8], message: &mut [u8]) -> Result<(), ReadError>
     ensures { (number_of (numbered result) ≡ border_read_number frame.now message.old) × (message.new ≡ border_read frame.now message.old) }
 {
     if message.len() != MESSAGE {
         return Err(ReadError::Size);
     }
-    codec::readable(frame)?;
-    put_readable(frame, message);
+    let m = codec::read(frame)?;
+    put_message(m, message);
     Ok(())
 }
 
