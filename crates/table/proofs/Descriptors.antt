@@ -1,5 +1,5 @@
 -- Descriptor sizes against 001's own table and examples, computed; and laws of the size bits.
-use Prim.Native.Nat.{ℕ, zero, suc, ◌+◌, ◌/◌, ◌%◌, ◌≤◌, ◌<◌}
+use Prim.Native.Nat.{ℕ, ◌+◌, ◌/◌, ◌%◌}
 use mathlib.Core.Path.{◌≡◌, refl, sym, ◌∙◌}
 use mathlib.Core.Logic.{◌↔◌}
 use mathlib.Core.List.{List, [], ◌∷◌, ◌++◌, map, flat_map}
@@ -10,8 +10,7 @@ use borrow.Author.Tests.{eqb-true, eqb-false, eq-eqb, ne_eqb}
 use Rattle.laws.specs.Bytes.{bits, up_from}
 use Rattle.laws.specs.Checks.{first_of}
 use Rattle.laws.proofs.Tests.{split}
-use Rattle.laws.proofs.Checks.{first_most}
-use Rattle.table.specs.Descriptor.{elements_of, size_bytes, boolean_size, LowestBytes, size_by, descriptor_size}
+use Rattle.table.specs.Descriptor.{elements_of, boolean_size, LowestBytes, size_by, descriptor_size}
 
 -- 001, 5.2, of a Boolean of undefined size: "if(Count<8) Write Byte, if(Count<16) Write Word, if(Count<32) Write Long" (and "if(Count=0) Write Bool", which is a byte)
 abbrev pub decoded : ℕ → ℕ
@@ -54,18 +53,3 @@ one_element d =
     split (eqb (d % 32) 0)
     (λ t. eq-eqb (elements_of d) 1 (omega (arith, eqb-true (d % 32) 0 t)) ∙ sym t)
     (λ t. ne_eqb (elements_of d) 1 (λ e. omega (arith, eqb-false (d % 32) 0 t, e)) ∙ sym t)
-
--- below long, a size names as many bytes as its number
-pub size_small : (s : ℕ) → s < 3 → size_bytes s ≡ s
-size_small zero h = refl
-size_small (suc zero) h = refl
-size_small (suc (suc zero)) h = refl
-size_small (suc (suc (suc s))) h = absurd (omega arith)
-
--- and no size names more than four
-pub size_bytes_most : (s : ℕ) → size_bytes s ≤ 4
-size_bytes_most s = first_most 4 ((eqb s 1, 1) ∷ (eqb s 2, 2) ∷ (eqb s 3, 4) ∷ []) refl
-
--- points where no size is given
-pub undefined_size : (s n : ℕ) → s ≡ 0 → boolean_size s n ≡ (n + 7) / 8
-undefined_size s n e = rw e refl

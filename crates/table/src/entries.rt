@@ -57,7 +57,7 @@ pub fn single_boolean(a: Attribute) -> bool
     is_boolean(a.descriptor) && a.descriptor % 32 == 0 && a.len == 1
 }
 
-// Whether a network record has the size of its descriptor, and another record none.
+// Whether a network record has the size of its descriptor, where a refused one has 0, and another record no descriptor.
 #[tactic(auto, using(crate::proofs::Served::size_back))]
 fn is_described(a: &Attribute) -> bool
     ensures { result ≡ described a.now }
@@ -74,6 +74,7 @@ fn is_described(a: &Attribute) -> bool
 fn entry_fits(a: &Attribute) -> bool
     ensures { result ≡ entry_fits a.now }
 {
+    // the length last: before the descriptor it was tried, and then a call saves registers for an empty table too
     a.object <= 31 && a.access <= 7 && is_described(a) && 1 <= a.len
 }
 
