@@ -12,7 +12,7 @@ use join::Piece;
 use octets::Data;
 use table::Attribute;
 
-// A fragment of a Write: its number, the total, and its data.
+// A fragment of a Write, as a plan's Join has it. (The plan names its parts one by one, since the definitions and theorems about Join do.)
 #[derive(Clone, Copy)]
 struct Part {
     number: u8,

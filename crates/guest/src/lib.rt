@@ -46,7 +46,8 @@ impl Refusal {
         self as u8
     }
 
-    // The refusal of a number, if one has it. It is 32 bits wide, so that C's 263 is not taken for 7.
+    // The refusal of a number, if one has it: C asks by the number. It is 32 bits wide, so that 263 is not taken for 7. The numbers stand here again, since a
+    // match is one look-up, and a search through the names is not.
     #[tactic(auto, unfolding(crate::specs::Checks::refusal_of))]
     pub fn of_number(number: u32) -> Option<Refusal>
         ensures { result ≡ refusal_of number }
