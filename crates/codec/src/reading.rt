@@ -20,10 +20,13 @@ fn served(h: Header) -> Result<(), ReadError>
     if h.rtr == 1 || MOST_DLC < h.dlc || MOST_ADDRESS < h.address {
         return Err(ReadError::Barred);
     }
-    if h.dlc == 1 || (2 <= h.dlc && h.service < LOWEST_LONG) {
+    if h.dlc == 0 {
+        return Ok(());
+    }
+    if h.dlc == 1 || h.service < LOWEST_LONG {
         return Err(ReadError::Unserved);
     }
-    if 2 <= h.dlc && h.flag == 1 && h.dlc < 4 {
+    if h.flag == 1 && h.dlc < 4 {
         return Err(ReadError::Cramped);
     }
     Ok(())

@@ -1,18 +1,19 @@
 -- A table as its records: what the definitions say of its bytes, said of them.
 use Prim.Native.Nat.{ℕ, zero, suc, ◌+◌, ◌/◌, ◌<◌, ◌≤◌}
 use mathlib.Core.Path.{◌≡◌, refl, ap}
-use mathlib.Core.Bool.{Bool, cond, ◌&&◌}
+use mathlib.Core.Bool.{Bool, true, cond, ◌&&◌}
 use mathlib.Core.List.{List, [], ◌∷◌, map}
 use native.Mathlib.Omega.{arith}
 use lib.ListN.{length, get_or, take, drop, drop_of_length-le}
 use lib.Dec.{leb}
+use borrow.Author.Tests.{le-leb}
 use lib.Seq.{get_or-take, drop-cons}
 use Rattle.std.proofs.Common.{Option, Some}
 use Rattle.std.specs.List.{find}
 use Rattle.std.specs.Simd.{first_chunks}
 use Rattle.table.specs.declared.Attribute.{Attribute}
 use Rattle.table.specs.Code.{records}
-use Rattle.table.specs.Table.{entry_size, attribute_of, attributes_of, attributes, pair_of, end_of, follows, well_from, first_in}
+use Rattle.table.specs.Table.{entry_size, attribute_of, attributes_of, attributes, pair_of, end_of, follows, well_from, well_formed, first_in}
 
 -- a record is the front of what stands at its place
 front : (t : List ℕ) → attribute_of (take entry_size t) ≡ attribute_of t
@@ -46,3 +47,8 @@ well_turn rs i a h e least end size b y =
 pub well_ends : (rs : List (List ℕ)) (i : ℕ) → length rs ≤ i → (least end size : ℕ) → well_from least end (map attribute_of (drop i rs)) size ≡ leb end size
 unfolding well_from
 well_ends rs i h least end size = rw (drop_of_length-le rs {i = i} h) refl
+
+-- a table without records is well formed
+pub none_well : (t : List ℕ) (size : ℕ) → length t < entry_size → well_formed t size ≡ true
+unfolding well_formed attributes well_from
+none_well t size h = let z : length t / entry_size ≡ 0 = omega arith in rw z (le-leb 0 size (omega arith))

@@ -2,7 +2,7 @@ use mathlib.Core.Path.{sym, ◌∙◌}
 use mathlib.Core.Bool.{true, false}
 use Rattle.table.specs.Table.{well_formed}
 use Rattle.table.proofs.Records.{attributes_said, well_turn, well_ends}
-use Rattle.table.proofs.entries.well_formed.Goals as goal
+use Rattle.table.proofs.entries.walked.Goals as goal
 
 pub loop-entry-init : goal.loop-entry-init
 unfolding well_formed
