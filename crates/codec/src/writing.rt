@@ -93,6 +93,7 @@ pub fn put_short(dir: u8, address: u8, service: u8, frame: &mut [u8])
 }
 
 // Writes the record that carries a message, or says why not, and the record stays.
+#[inline(always)]
 #[tactic(auto, using(crate::proofs::Images::short_put, crate::proofs::Images::plain_put, crate::proofs::Images::fragment_put), unfolding(crate::specs::Writing::write_number, crate::specs::Writing::written_of, crate::specs::Writing::carried))]
 pub fn write(m: Message, frame: &mut [u8]) -> Result<(), WriteError>
     ensures { (written_number result ≡ write_number m frame.old) × (frame.new ≡ written_of m frame.old) }

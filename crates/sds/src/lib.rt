@@ -52,10 +52,7 @@ pub fn sds_read(frame: &[u8], message: &mut [u8]) -> u32
 pub fn sds_write(message: &[u8], frame: &mut [u8]) -> u32
     ensures { (result ≡ border_write_number message.now frame.old) × (frame.new ≡ border_write message.now frame.old) }
 {
-    match write_from(message, frame) {
-        Ok(()) => 0,
-        Err(e) => e.number() as u32,
-    }
+    write_from(message, frame)
 }
 
 // The size of what a data descriptor describes; 0 where it is refused. It is 32 bits wide so that one above 16 bits is refused and not cut.

@@ -1,5 +1,7 @@
 // A message as the 16 bytes that C lends.
-ghost use Rattle.std.specs.Prelude.{◌≡◌, ◌&&◌, eqb, length, drop};
+ghost use Rattle.std.specs.Prelude.{◌≡◌, ◌&&◌, eqb, length, drop, if◌then◌else◌, Some, None};
+ghost use Rattle.codec.specs.declared.Message.TheVariants.{Short};
+ghost use Rattle.codec.specs.Names.{frame_size};
 ghost use Rattle.laws.specs.Bytes.{byte_at, zeros};
 ghost use Rattle.codec.specs.Reading.{number_of, numbered};
 ghost use Rattle.codec.specs.Writing.{written_number};
@@ -111,6 +113,17 @@ fn only_short(message: &[u8]) -> bool
     zeros(message.get(4..).unwrap_or(&[]))
 }
 
+// The short message of 16 bytes of that kind. There is none where a place behind its service is not 0.
+fn short_at(message: &[u8]) -> Option<Message>
+    ensures { result ≡ if zeros (drop 4 message.now) then Some (Short (byte_at message.now 1) (byte_at message.now 2) (byte_at message.now 3)) else None }
+{
+    only_short(message).then_some(Message::Short {
+        dir: byte_at(message, 1),
+        address: byte_at(message, 2),
+        service: byte_at(message, 3),
+    })
+}
+
 // Whether a message has neither fragment number nor total.
 fn unnumbered(message: &[u8]) -> bool
     ensures { result ≡ (eqb (byte_at message.now 7) 0 && eqb (byte_at message.now 8) 0) }
@@ -124,11 +137,7 @@ fn message_at(message: &[u8]) -> Option<Message>
     ensures { result ≡ message_in message.now }
 {
     match byte_at(message, 0) {
-        0 if only_short(message) => Some(Message::Short {
-            dir: byte_at(message, 1),
-            address: byte_at(message, 2),
-            service: byte_at(message, 3),
-        }),
+        0 => short_at(message),
         1 if unnumbered(message) => Some(Message::Plain {
             about: subject_at(message),
             body: data_at(message),
@@ -156,14 +165,46 @@ pub(crate) fn read_into(frame: &[u8], message: &mut [u8]) -> Result<(), ReadErro
     Ok(())
 }
 
-// Writes the record that carries a message, which stays where it is refused.
-#[tactic(auto, unfolding(crate::specs::Border::border_write_number, crate::specs::Border::border_write, codec::specs::Writing::write_number, codec::specs::Writing::written_of))]
-pub(crate) fn write_from(message: &[u8], frame: &mut [u8]) -> Result<(), WriteError>
-    ensures { (written_number result ≡ border_write_number message.now frame.old) × (frame.new ≡ border_write message.now frame.old) }
+// C's number of what writing answers.
+fn number(written: Result<(), WriteError>) -> u32
+    ensures { result ≡ written_number written }
 {
-    if message.len() != MESSAGE || frame.len() != FRAME_SIZE {
-        return Err(WriteError::Size);
+    match written {
+        Ok(()) => 0,
+        Err(e) => e.number() as u32,
     }
-    let m = message_at(message).ok_or(WriteError::Unfit)?;
-    codec::write(m, frame)
+}
+
+// Writes the record that carries the message of 16 bytes, which stays where it is refused. Out of line, and by its number: else a short form saves the registers
+// of a long one, and `sds_write` of it is above the limit of speed.
+#[inline(never)]
+#[tactic(auto, unfolding(crate::specs::Border::border_write_number, crate::specs::Border::border_write, codec::specs::Writing::write_number, codec::specs::Writing::written_of))]
+fn write_sized(message: &[u8; MESSAGE], frame: &mut [u8]) -> u32
+    requires { length frame.old ≡ frame_size }
+    ensures { (result ≡ border_write_number message.now frame.old) × (frame.new ≡ border_write message.now frame.old) }
+{
+    match message_at(message) {
+        Some(m) => number(codec::write(m, frame)),
+        None => number(Err(WriteError::Unfit)),
+    }
+}
+
+// Writes the record that carries a message, which stays where it is refused.
+#[tactic(auto, unfolding(crate::specs::Border::message_at, crate::specs::Border::bordered, crate::specs::Border::border_write_number, crate::specs::Border::border_write, codec::specs::Writing::write_number, codec::specs::Writing::written_of))]
+pub(crate) fn write_from(message: &[u8], frame: &mut [u8]) -> u32
+    ensures { (result ≡ border_write_number message.now frame.old) × (frame.new ≡ border_write message.now frame.old) }
+{
+    let Some(message) = message.as_array() else {
+        return number(Err(WriteError::Size));
+    };
+    if frame.len() != FRAME_SIZE {
+        return number(Err(WriteError::Size));
+    }
+    if byte_at(message, 0) != 0 {
+        return write_sized(message, frame);
+    }
+    let Some(m) = short_at(message) else {
+        return number(Err(WriteError::Unfit));
+    };
+    number(codec::write(m, frame))
 }
