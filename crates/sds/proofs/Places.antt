@@ -6,14 +6,18 @@ use mathlib.Core.List.{List, ◌∷◌, ◌++◌}
 use native.Mathlib.Omega.{arith}
 use lib.ListN.{length, drop, replicate, length-drop, drop_of_length-le}
 use lib.Dec.{eqb}
-use borrow.Author.Tests.{eqb-true}
+use borrow.Author.Tests.{eqb-true, eqb-false, eq-eqb}
 use Rattle.laws.specs.Bytes.{byte_at}
+use Rattle.laws.specs.Checks.{first_of}
 use Rattle.laws.proofs.Tests.{split}
 use Rattle.laws.proofs.Bytes.{zeros_are, places, places_back}
 use Rattle.octets.specs.Data.{data_of}
 use Rattle.std.specs.Prelude.{Some}
 use Rattle.codec.specs.declared.Message.TheVariants.{Plain, Fragment}
-use Rattle.sds.specs.Border.{message_in, long_bytes, message_bytes, subject_at, data_at, message_at, bordered}
+use Rattle.codec.specs.Fields.{header_of}
+use Rattle.codec.specs.Reading.{read_checks, short_of, message_of}
+use Rattle.codec.proofs.Long.{payload_plain, payload_fragment}
+use Rattle.sds.specs.Border.{long_message, record_message, message_in, long_bytes, message_bytes, subject_at, data_at, message_at, bordered}
 
 -- sixteen bytes, one by one, or the first four of them
 module _ (l : List ℕ) (n : length l ≡ 16) where
@@ -57,3 +61,22 @@ plain_in l k u = simp (k, u)
 pub fragment_in : (l : List ℕ) → byte_at l 0 ≡ 2 → Some (Fragment (subject_at l) (byte_at l 7) (byte_at l 8) (data_at l)) ≡ message_in l
 unfolding bordered message_at
 fragment_in l k = simp k
+
+-- ---- a record's message, off its places
+
+-- the message of a short form
+message_short : (r : List ℕ) → (header_of r).dlc ≡ 0 → message_of r ≡ short_of (header_of r)
+unfolding message_of
+message_short r z = simp (eq-eqb (header_of r).dlc 0 z)
+
+-- of a record that is read, what is put is its message's bytes
+pub put_is_message : (r : List ℕ) → first_of (read_checks r) ≡ 0 → record_message r ≡ message_bytes (message_of r)
+unfolding record_message long_message message_bytes
+put_is_message r e =
+    split (eqb (header_of r).dlc 0)
+    (λ t. rw (message_short r (eqb-true (header_of r).dlc 0 t)) (simp t))
+    (λ t.
+    let long = eqb-false (header_of r).dlc 0 t in
+    split (eqb (header_of r).flag 1)
+    (λ f. rw (payload_fragment r e long (eqb-true (header_of r).flag 1 f)) (simp (t, f)))
+    (λ f. rw (payload_plain r e long (eqb-false (header_of r).flag 1 f)) (simp (t, f))))

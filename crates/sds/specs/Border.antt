@@ -5,12 +5,15 @@ use Rattle.laws.specs.Bytes.{byte_at, zeros}
 use Rattle.laws.specs.Checks.{Check, first_of}
 use Rattle.octets.specs.declared.Data.{Data}
 use Rattle.octets.specs.Data.{data_of, places_of}
+use Rattle.codec.specs.declared.Header.{Header}
 use Rattle.codec.specs.declared.Subject.{Subject}
 use Rattle.codec.specs.declared.Message.{Message}
 use Rattle.codec.specs.declared.Message.TheVariants.{Short, Plain, Fragment}
 use Rattle.codec.specs.Names.{frame_size}
-use Rattle.codec.specs.Reading.{read_of, number_of}
+use Rattle.codec.specs.Fields.{header_of}
+use Rattle.codec.specs.Reading.{subject_of, read_of, number_of}
 use Rattle.codec.specs.Writing.{carried, image_of}
+use Rattle.codec.specs.Code.{payload_data, unprefixed}
 use Rattle.table.specs.Descriptor.{descriptor_size}
 use Rattle.table.specs.Table.{lengths_fit, well_formed}
 use Rattle.guest.specs.Step.{Areas, Outcome}
@@ -33,6 +36,18 @@ unfoldable pub message_bytes : Message → List ℕ
 message_bytes (Short dir address service) = long_bytes 0 (short_subject dir address service) 0 0 (data_of [])
 message_bytes (Plain u b) = long_bytes 1 u 0 0 b
 message_bytes (Fragment u number total b) = long_bytes 2 u number total b
+
+-- the same off a record's places: of its header and of what stands behind the ID, flag clear, or number and total in front
+unfoldable pub long_message : Header → Data → List ℕ
+long_message h p =
+    cond (eqb h.flag 1) (long_bytes 2 (subject_of h) (byte_at p.places 0) (byte_at p.places 1) (unprefixed p)) (long_bytes 1 (subject_of h) 0 0 p)
+
+-- and of any record; of one that is read these are its message's bytes (`put_is_message`)
+unfoldable pub record_message : List ℕ → List ℕ
+record_message r =
+    cond (eqb (header_of r).dlc 0)
+    (long_bytes 0 (short_subject (header_of r).dir (header_of r).address (header_of r).service) 0 0 (data_of []))
+    (long_message (header_of r) (payload_data r))
 
 -- the places of a message, read
 unfoldable pub subject_at : List ℕ → Subject
