@@ -34,11 +34,12 @@ main_entry() { entry_points "$1" | cut -d' ' -f1; }
 
 # module_text LIBRARY ARCH TEXT: writes the module as text for ARCH instead of x86-64, with two attributes more: optsize, without which -Os does
 # half of its work on a module; and no jumps through tables, so that no address is computed in the code at all and stack.awk sees every
-# call. Each replacement must have found its place, or the module is no longer what this was written for.
+# call. Hints on inlining, which are for speed on x86-64, are left out. Each replacement must have found its place, or the module is no longer what this was written for.
 module_text() {
     target=$(target_of "$2")
     tools/module "$target" "$1" >"$3.plain"
-    sed 's/^attributes #0 = { nounwind/& optsize "no-jump-tables"="true"/' "$3.plain" >"$3"
+    ours='nounwind optsize "no-jump-tables"="true" }'
+    sed -E "s/^(attributes #[0-9]+ = \\{ )((alwaysinline|noinline) )?nounwind }$/\\1$ours/" "$3.plain" >"$3"
     for entry in $(entry_points "$1"); do
         grep -q "^define .*@$entry(.*) #0 {\$" "$3" || fail "the module of $1 has no $entry"
     done
@@ -46,7 +47,8 @@ module_text() {
     grep -q "^target triple = \"${target%%-*}-" "$3" || fail "the module is not for ${target%%-*}"
     ! grep -E 'x86|"probe-stack"|"stack-probe-size"|"target-cpu"' "$3" >&2 || fail 'the module still speaks of x86-64'
     ! cmp -s "$3.plain" "$3" || fail 'the module has no attributes #0 of nounwind functions'
-    ! grep '^define ' "$3" | grep -v ' #0 {$' >&2 || fail 'a function of the module has attributes of its own'
+    groups=$(sed -n "s/^attributes \\(#[0-9]*\\) = { $ours\$/\\1/p" "$3" | paste -sd '|' -)
+    ! grep '^define ' "$3" | grep -Ev " ($groups) \\{\$" >&2 || fail 'a function of the module has attributes of its own'
 }
 
 # Small before fast: flash is what a small part lacks first.

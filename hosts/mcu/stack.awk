@@ -71,9 +71,9 @@ $2 ~ /^blx/ && $3 !~ /^0x/ || $2 ~ /^bx/ && $3 != "lr" || $2 ~ /^tb[bh]$/ || ($3
     stop("a computed address in " current ": " $0)
 }
 
-# A Cortex-M0 also takes bl for a far jump inside a function: only a bl to its beginning is a call of itself. A place behind constants that stand
+# A name of the module may hold < and > itself. A Cortex-M0 also takes bl for a far jump inside a function: only a bl to its beginning is a call of itself. A place behind constants that stand
 # inside a function is told from the mark ($t) there; that it is inside the same function shows when all functions are known.
-$2 ~ /^(b|cb)/ && match($0, /<[^>]*>/) {
+$2 ~ /^(b|cb)/ && match($0, /<.*>/) {
     target = substr($0, RSTART + 1, RLENGTH - 2)
     inside = sub(/\+0x[0-9a-f]+$/, "", target)
     if (target ~ /^\$/) {
