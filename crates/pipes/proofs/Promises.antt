@@ -15,9 +15,9 @@ use Rattle.pipes.specs.Buffers.{appended, appended_count}
 use Rattle.pipes.proofs.buffer.Buffer.new.Reads as new
 use Rattle.pipes.proofs.buffer.Buffer.held.Reads as held
 use Rattle.pipes.proofs.buffer.Buffer.append.Reads as append
-use Rattle.pipes.proofs.work.Output.send.Reads as send
-use Rattle.pipes.proofs.work.next.Reads as next
-use Rattle.pipes.proofs.work.run.Reads as run
+use Rattle.pipes.proofs.running.Output.send.Reads as send
+use Rattle.pipes.proofs.running.next.Reads as next
+use Rattle.pipes.proofs.running.run.Reads as run
 use Rattle.pipes.proofs.complaint.complaint_of.Reads as complaint-of
 use Rattle.pipes.proofs.complaint.tell.Reads as tell
 

@@ -4,8 +4,8 @@
 
 mod buffer;
 mod complaint;
-mod work;
+mod running;
 
 pub use buffer::Buffer;
 pub use complaint::{COMPLAINT_ROOM, complaint_of, tell};
-pub use work::{BLOCK, Output, Work, next, run};
+pub use running::{BLOCK, Output, Work, next, run};

@@ -1,9 +1,9 @@
 use mathlib.Core.Path.{◌≡◌, sym, ap, ◌∙◌}
-use Rattle.pipes.specs.declared.work.Output.{Output}
+use Rattle.pipes.specs.declared.running.Output.{Output}
 use Rattle.pipes.specs.Buffers.{sent_from}
 use Rattle.pipes.proofs.Filling.{from_front, from_behind}
-use Rattle.pipes.proofs.work.Output.send.Goals.{then-lacks_room, else-lacks_room}
-use Rattle.pipes.proofs.work.Output.send.Goals as goal
+use Rattle.pipes.proofs.running.Output.send.Goals.{then-lacks_room, else-lacks_room}
+use Rattle.pipes.proofs.running.Output.send.Goals as goal
 
 pub returns : goal.returns
 returns c =
