@@ -26,7 +26,7 @@ impl Export {
                 out.send(line.text());
                 out.send(b"\n");
             }
-            Err(refusal) => pipes::tell(
+            Err(refusal) => pipes::tell_displayed(
                 self.errors,
                 b"record",
                 self.records,

@@ -23,7 +23,7 @@ impl Import {
         self.lines = pipes::next(self.lines);
         match candump::import_line(self.held.held()) {
             Ok(record) => out.send(&record),
-            Err(refusal) => pipes::tell(
+            Err(refusal) => pipes::tell_displayed(
                 self.errors,
                 b"line",
                 self.lines,
