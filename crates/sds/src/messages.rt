@@ -5,7 +5,7 @@ ghost use Rattle.codec.specs.Names.{frame_size};
 ghost use Rattle.laws.specs.Bytes.{byte_at, zeros};
 ghost use Rattle.codec.specs.Reading.{number_of, numbered};
 ghost use Rattle.codec.specs.Writing.{written_number};
-ghost use Rattle.sds.specs.Border.{message_size, long_bytes, short_subject, message_bytes, subject_at, data_at, message_in, border_read_number, border_read, border_write_number, border_write};
+ghost use Rattle.sds.specs.Border.{message_size, long_bytes, short_subject, message_bytes, subject_at, data_at, message_in, put_message, border_read_number, border_read, border_write_number, border_write};
 
 use codec::{FRAME_SIZE, Message, ReadError, Subject, WriteError};
 use octets::{Data, byte_at, zeros};
@@ -27,11 +27,13 @@ fn short_subject(dir: u8, address: u8, service: u8) -> Subject
     }
 }
 
-// Puts the 16 bytes of a message, of its kind's number in C.
+// Puts the 16 bytes of a message, of its kind's number in C. A buffer of another length stays.
 fn put_places(kind: u8, u: Subject, number: u8, total: u8, b: Data, message: &mut [u8])
-    requires { length message.old ≡ message_size }
-    ensures { message.new ≡ long_bytes kind u number total b }
+    ensures { message.new ≡ put_message (long_bytes kind u number total b) message.old }
 {
+    if message.len() != MESSAGE {
+        return;
+    }
     message[0] = kind;
     message[1] = u.dir;
     message[2] = u.address;
@@ -50,11 +52,10 @@ fn put_places(kind: u8, u: Subject, number: u8, total: u8, b: Data, message: &mu
     message[15] = b.places[5];
 }
 
-// Puts the 16 bytes of a message.
+// Puts the 16 bytes of a message. A buffer of another length stays.
 #[tactic(auto, unfolding(crate::specs::Border::message_bytes))]
 fn put_message(m: Message, message: &mut [u8])
-    requires { length message.old ≡ message_size }
-    ensures { message.new ≡ message_bytes m }
+    ensures { message.new ≡ put_message (message_bytes m) message.old }
 {
     match m {
         Message::Short {
