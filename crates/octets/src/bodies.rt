@@ -31,7 +31,6 @@ fn six_of(bytes: &[u8]) -> [u8; 6]
 }
 
 // The bytes of a slice, of which at most six have room.
-
 pub fn data_from(bytes: &[u8]) -> Data
     ensures { result ≡ data_of (take most_data bytes.now) }
 {
@@ -52,7 +51,7 @@ pub fn places_of(d: Data) -> [u8; 6]
 fn rest_is_zero(held: Data) -> bool
     ensures { result ≡ zeros (drop held.len held.places) }
 {
-    held.places.iter().skip(held.len as usize).all(|b| *b == 0)
+    held.places.iter().enumerate().all(|(i, b)| i < held.len as usize || *b == 0)
 }
 
 // Whether data has at most so many bytes, and 0 in each place that they leave unused.
