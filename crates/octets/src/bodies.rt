@@ -47,11 +47,18 @@ pub fn places_of(d: Data) -> [u8; 6]
     d.places
 }
 
-// Whether each place that the bytes leave unused is 0.
+// Whether each place that the bytes leave unused is 0. By each place's number, and none where all are used: so the array stays in registers, and
+// `iter().skip` took a third more of a call of `sds_write`.
 fn rest_is_zero(held: Data) -> bool
     ensures { result ≡ zeros (drop held.len held.places) }
 {
-    held.places.iter().enumerate().all(|(i, b)| i < held.len as usize || *b == 0)
+    let len = held.len as usize;
+    held.len >= MOST
+        || held
+            .places
+            .iter()
+            .enumerate()
+            .all(|(i, b)| i < len || *b == 0)
 }
 
 // Whether data has at most so many bytes, and 0 in each place that they leave unused.

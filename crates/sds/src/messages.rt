@@ -201,8 +201,10 @@ pub(crate) fn write_from(message: &[u8], frame: &mut [u8]) -> u32
     if frame.len() != FRAME_SIZE {
         return number(Err(WriteError::Size));
     }
-    if byte_at(message, 0) != 0 {
-        return write_sized(message, frame);
+    match byte_at(message, 0) {
+        0 => {}
+        1 | 2 => return write_sized(message, frame),
+        _ => return number(Err(WriteError::Unfit)),
     }
     let Some(m) = short_at(message) else {
         return number(Err(WriteError::Unfit));

@@ -11,8 +11,8 @@ use borrow.Author.Tests.{tests}
 use Rattle.octets.proofs.Datas.{zeros_behind}
 use Rattle.octets.proofs.bodies.rest_is_zero.Goals as goal
 
-pub returns : goal.returns
-returns c =
+pub returns-else-held-ge-MOST : goal.returns-else-held-ge-MOST
+returns-else-held-ge-MOST c =
     let held = c.args.held in
     let all : held.len - 0 ≡ held.len = omega arith in
     all_from_yields_List (λ (p : ℕ × ℕ). ltb p.0 held.len || eqb p.1 0) _ _ _ c.all.ensures.ran (YieldsList-from_enumerate (YieldsList-from_slice held.places (cc)) (cc))
