@@ -21,6 +21,17 @@ struct Export {
 }
 
 impl Export {
+    // One that has not begun.
+    fn new(errors: Stderr) -> Export
+        ensures { result.held.used ≡ 0 }
+    {
+        Export {
+            errors,
+            held: Buffer::new(),
+            records: 0,
+        }
+    }
+
     // A record is whole, or the input has ended: sends its line, or tells why it is refused.
     fn finish_record(&mut self, record: &[u8], out: &mut Output)
         ensures { self.new.held ≡ self.old.held }
@@ -56,6 +67,7 @@ impl Work for Export {
     fn take(&mut self, block: &[u8], out: &mut Output)
         ensures { self.new.held.used < frame_size }
     {
+        prove!(self.held.bytes.len() == RECORD);
         let missing = RECORD.saturating_sub(self.held.used);
         let Some((first, rest)) = block.split_at_checked(missing) else {
             self.held.append(block);
@@ -82,10 +94,6 @@ impl Work for Export {
 }
 
 fn main(rt: HostRuntime) {
-    let export = Export {
-        errors: rt.stderr(),
-        held: Buffer::new(),
-        records: 0,
-    };
+    let export = Export::new(rt.stderr());
     pipes::run(rt.stdin(), rt.stdout(), export);
 }

@@ -181,11 +181,11 @@ fn number(written: Result<(), WriteError>) -> u32
 #[inline(never)]
 #[tactic(auto, unfolding(crate::specs::Border::border_write_number, crate::specs::Border::border_write, codec::specs::Writing::write_number, codec::specs::Writing::written_of))]
 fn write_sized(message: &[u8; MESSAGE], frame: &mut [u8]) -> u32
-    requires { length frame.old ≡ frame_size }
     ensures { (result ≡ border_write_number message.now frame.old) × (frame.new ≡ border_write message.now frame.old) }
 {
     match message_at(message) {
         Some(m) => number(codec::write(m, frame)),
+        None if frame.len() != FRAME_SIZE => number(Err(WriteError::Size)),
         None => number(Err(WriteError::Unfit)),
     }
 }
