@@ -1,7 +1,8 @@
 -- DETERMINATION: two outcomes that meet a public function's contract are equal, in the count and every lent byte, and the contract asks nothing of a caller.
 use mathlib.Core.Path.{◌≡◌, sym, ◌∙◌}
 use Rattle.answers.proofs.answering.code_of.Reads as code_of_lem
-use Rattle.answers.proofs.answering.Request.refuse.Reads as refuse
+use Rattle.answers.proofs.answering.refuse.Reads as refuse
+use Rattle.answers.proofs.answering.Request.refuse.Reads as request-refuse
 use Rattle.answers.proofs.answering.Request.acknowledge.Reads as acknowledge
 use Rattle.answers.proofs.answering.Request.acknowledge_short.Reads as acknowledge-short
 use Rattle.answers.proofs.answering.Request.send_part.Reads as send-part
@@ -13,11 +14,18 @@ pub code_of_asks_nothing : (κs : _) (args : _) → code_of_lem.Asked κs args
 code_of_asks_nothing κs args = tt
 
 pub refuse_determined : (κs : _) (args : _) (r r' : _) (s s' : _) → refuse.Post κs args r s → refuse.Post κs args r' s'
-    → s.1.1.0.now ≡ s'.1.1.0.now
+    → s.1.1.1.0.now ≡ s'.1.1.1.0.now
 refuse_determined κs args r r' s s' p q = p ∙ sym q
 
 pub refuse_asks_nothing : (κs : _) (args : _) → refuse.Asked κs args
 refuse_asks_nothing κs args = tt
+
+pub request_refuse_determined : (κs : _) (args : _) (r r' : _) (s s' : _) → request-refuse.Post κs args r s → request-refuse.Post κs args r' s'
+    → s.1.1.0.now ≡ s'.1.1.0.now
+request_refuse_determined κs args r r' s s' p q = p ∙ sym q
+
+pub request_refuse_asks_nothing : (κs : _) (args : _) → request-refuse.Asked κs args
+request_refuse_asks_nothing κs args = tt
 
 pub acknowledge_determined : (κs : _) (args : _) (r r' : _) (s s' : _) → acknowledge.Post κs args r s → acknowledge.Post κs args r' s'
     → s.1.0.now ≡ s'.1.0.now

@@ -46,10 +46,10 @@ pub fn code_of(number: u32) -> u8
 }
 
 // The data of an error frame: one byte.
-fn reason(refusal: Refusal) -> Data
-    ensures { result ≡ data_of (code_of (number_of refusal) ∷ []) }
+fn reason(number: u8) -> Data
+    ensures { result ≡ data_of (code_of number ∷ []) }
 {
-    octets::data_from(&[code(refusal)])
+    octets::data_from(&[code_of(number as u32)])
 }
 
 // The place of frame n: 2 and 8 times n, by shifts in two widths, as `join::place_of` and for its reason.
@@ -151,11 +151,11 @@ impl Request {
         send(self.answering(response), 0, body, 0, out);
     }
 
-    // "Refusals 7 to 14 put one frame: Error, flag clear" (13 is gone: 02, 2026-05), with "DLC 3 and one data byte" (02, 2026-06).
+    // A refusal, by its number.
     pub fn refuse(self, refusal: Refusal, out: &mut [u8])
         ensures { out.new ≡ refused_with self.own self.h (number_of refusal) out.old }
     {
-        self.send_single(ERRONEOUS, reason(refusal), out);
+        refuse(self.own, self.h, refusal.number(), out);
     }
 
     // A Write that is done: "one Successful frame, flag clear, DLC 2".
@@ -225,4 +225,12 @@ impl Request {
         }
         0
     }
+}
+
+// "Refusals 7 to 14 put one frame: Error, flag clear" (13 is gone: 02, 2026-05), with "DLC 3 and one data byte" (02, 2026-06). Of any number: one without
+// an entry has the byte 0.
+pub fn refuse(own: u8, h: Header, number: u8, out: &mut [u8])
+    ensures { out.new ≡ refused_with own h number out.old }
+{
+    Request { own, h }.send_single(ERRONEOUS, reason(number), out);
 }

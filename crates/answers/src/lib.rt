@@ -3,4 +3,4 @@
 
 mod answering;
 
-pub use answering::{Request, code_of};
+pub use answering::{Request, code_of, refuse};

@@ -29,6 +29,7 @@ fn subject_fits(u: Subject) -> bool
         && u.object <= 31
 }
 
+#[inline(always)]
 fn long_fits(u: Subject, most: u8, d: Data) -> bool
     ensures { result ≡ subject_fits u && tidy most d }
 {

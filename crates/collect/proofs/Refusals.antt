@@ -50,6 +50,11 @@ same_collected x y e = λ i. record {
 pub refused_number : (x : Result (Option Value) Refusal) (e : Refusal) → x ≡ Err e → (number_of x ≡ 0 → ⊥)
 refused_number x e q z = refused_is_not_0 e (rw q at z)
 
+-- what is handed over, as the code takes it
+pub unwrapped : (x : Result (Option Value) Refusal) → result_unwrap_or x None ≡ value_of x
+unwrapped (Ok v) = refl
+unwrapped (Err e) = refl
+
 -- as the code asks whether something is handed over
 pub handed : (x : Result (Option Value) Refusal) → is_some (result_unwrap_or x None) ≡ hands_over (value_of x)
 handed (Ok (Some v)) = refl

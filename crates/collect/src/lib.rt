@@ -9,7 +9,7 @@ mod counting;
 mod showing;
 
 pub use collecting::collect;
-pub use counting::tallied;
+pub use counting::{counted, tallied};
 pub use showing::part_of;
 
 // "One 260-byte work record per guest, 126 of them".

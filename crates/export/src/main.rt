@@ -3,6 +3,9 @@
 // whole record waits for those behind it.
 #![tactic(auto)]
 
+ghost use Rattle.std.specs.Prelude.{◌≡◌, ◌<◌};
+ghost use Rattle.codec.specs.Names.{frame_size};
+
 use pipes::{Buffer, Output, Work};
 use std::io::Stderr;
 use std::mem;
@@ -18,15 +21,28 @@ struct Export {
 }
 
 impl Export {
+    // One that has not begun.
+    fn new(errors: Stderr) -> Export
+        ensures { result.held.used ≡ 0 }
+    {
+        Export {
+            errors,
+            held: Buffer::new(),
+            records: 0,
+        }
+    }
+
     // A record is whole, or the input has ended: sends its line, or tells why it is refused.
-    fn finish_record(&mut self, record: &[u8], out: &mut Output) {
+    fn finish_record(&mut self, record: &[u8], out: &mut Output)
+        ensures { self.new.held ≡ self.old.held }
+    {
         self.records = pipes::next(self.records);
         match candump::export_record(record) {
             Ok(line) => {
                 out.send(line.text());
                 out.send(b"\n");
             }
-            Err(refusal) => pipes::tell(
+            Err(refusal) => pipes::tell_displayed(
                 self.errors,
                 b"record",
                 self.records,
@@ -37,7 +53,9 @@ impl Export {
     }
 
     // What is held is finished, and nothing is held then.
-    fn finish_held(&mut self, out: &mut Output) {
+    fn finish_held(&mut self, out: &mut Output)
+        ensures { self.new.held.used ≡ 0 }
+    {
         let held = mem::replace(&mut self.held, Buffer::new());
         self.finish_record(held.held(), out);
     }
@@ -45,7 +63,11 @@ impl Export {
 
 impl Work for Export {
     // Each record that ends in these bytes is finished, and the front of the last one is held.
-    fn take(&mut self, block: &[u8], out: &mut Output) {
+    #[tactic(auto, unfolding(pipes::specs::Buffers::appended_count))]
+    fn take(&mut self, block: &[u8], out: &mut Output)
+        ensures { self.new.held.used < frame_size }
+    {
+        prove!(self.held.bytes.len() == RECORD);
         let missing = RECORD.saturating_sub(self.held.used);
         let Some((first, rest)) = block.split_at_checked(missing) else {
             self.held.append(block);
@@ -62,7 +84,9 @@ impl Work for Export {
     }
 
     // What is left of a record.
-    fn end(&mut self, out: &mut Output) {
+    fn end(&mut self, out: &mut Output)
+        ensures { self.new.held.used ≡ 0 }
+    {
         if self.held.used > 0 {
             self.finish_held(out);
         }
@@ -70,10 +94,6 @@ impl Work for Export {
 }
 
 fn main(rt: HostRuntime) {
-    let export = Export {
-        errors: rt.stderr(),
-        held: Buffer::new(),
-        records: 0,
-    };
+    let export = Export::new(rt.stderr());
     pipes::run(rt.stdin(), rt.stdout(), export);
 }

@@ -23,7 +23,7 @@ impl Import {
         self.lines = pipes::next(self.lines);
         match candump::import_line(self.held.held()) {
             Ok(record) => out.send(&record),
-            Err(refusal) => pipes::tell(
+            Err(refusal) => pipes::tell_displayed(
                 self.errors,
                 b"line",
                 self.lines,
@@ -37,15 +37,17 @@ impl Import {
 
 impl Work for Import {
     // Each line that ends in these bytes is finished, and the front of the last one is held.
+    #[tactic(auto, using(candump::proofs::Cuts::index_most))]
     fn take(&mut self, block: &[u8], out: &mut Output) {
-        for part in block.split_inclusive(|c| *c == candump::LINE_FEED) {
-            match part.strip_suffix(&[candump::LINE_FEED]) {
-                Some(end) => {
-                    self.held.append(end);
-                    self.finish_line(out);
-                }
-                None => self.held.append(part),
-            }
+        let mut rest = block;
+        while !rest.is_empty() {
+            let (line, from) = rest.split_at(candump::place_of(candump::LINE_FEED, rest));
+            self.held.append(line);
+            let Some((_, behind)) = from.split_first() else {
+                return;
+            };
+            self.finish_line(out);
+            rest = behind;
         }
     }
 

@@ -1,7 +1,10 @@
 -- DETERMINATION: two outcomes that meet a public function's contract are equal, and no contract asks anything of a caller.
 use Prim.Native.Nat.{ℕ, ◌^◌, ◌≤◌}
 use borrow.Author.Rules.{rules}
+use mir.Syntax.{w64}
+use mir.Val.{Fits}
 use mathlib.Core.Path.{◌≡◌, sym, ◌∙◌}
+use native.Mathlib.Omega.{arith}
 use Rattle.join.proofs.place.place_of.Reads as place_of
 use Rattle.join.proofs.place.data_place.Reads as data-place
 use Rattle.join.proofs.order.is_shaped.Reads as is-shaped
@@ -56,20 +59,20 @@ place_of_asks_nothing κs args = tt
 pub is_shaped_asks_nothing : (κs : _) (args : _) → is-shaped.Asked κs args
 is_shaped_asks_nothing κs args = tt
 
-pub is_astray_asks_nothing : (K : ℕ) (small : K ≤ 2 ^ 62) (fits : _) (κs : _) (args : _) → is-astray.Asked K fits κs args
-is_astray_asks_nothing K small fits κs args = search rules
+pub is_astray_of_any_asks_nothing : (K : ℕ) (small : K ≤ 2 ^ 62) (fits : _) (κs : _) (args : _) → is-astray.Asked K fits κs args
+is_astray_of_any_asks_nothing K small fits κs args = search rules
 
-pub is_last_asks_nothing : (K : ℕ) (small : K ≤ 2 ^ 62) (fits : _) (κs : _) (args : _) → is_last.Asked K fits κs args
-is_last_asks_nothing K small fits κs args = search rules
+pub is_last_of_any_asks_nothing : (K : ℕ) (small : K ≤ 2 ^ 62) (fits : _) (κs : _) (args : _) → is_last.Asked K fits κs args
+is_last_of_any_asks_nothing K small fits κs args = search rules
 
-pub keep_asks_nothing : (K : ℕ) (small : K ≤ 2 ^ 62) (fits : _) (κs : _) (args : _) → keep.Asked K fits κs args
-keep_asks_nothing K small fits κs args = search rules
+pub keep_of_any_asks_nothing : (K : ℕ) (small : K ≤ 2 ^ 62) (fits : _) (κs : _) (args : _) → keep.Asked K fits κs args
+keep_of_any_asks_nothing K small fits κs args = search rules
 
 pub clear_asks_nothing : (κs : _) (args : _) → clear.Asked κs args
 clear_asks_nothing κs args = tt
 
-pub join_into_asks_nothing : (K : ℕ) (small : K ≤ 2 ^ 62) (fits : _) (κs : _) (args : _) → join-into.Asked K fits κs args
-join_into_asks_nothing K small fits κs args = search rules
+pub join_into_of_any_asks_nothing : (K : ℕ) (small : K ≤ 2 ^ 62) (fits : _) (κs : _) (args : _) → join-into.Asked K fits κs args
+join_into_of_any_asks_nothing K small fits κs args = search rules
 
 pub data_place_asks_nothing : (κs : _) (args : _) → data-place.Asked κs args
 data_place_asks_nothing κs args = tt
@@ -77,5 +80,40 @@ data_place_asks_nothing κs args = tt
 pub is_filling_asks_nothing : (κs : _) (args : _) → is-filling.Asked κs args
 is_filling_asks_nothing κs args = tt
 
-pub finish_asks_nothing : (K : ℕ) (small : K ≤ 2 ^ 62) (fits : _) (κs : _) (args : _) → finish.Asked K fits κs args
-finish_asks_nothing K small fits κs args = search rules
+pub finish_of_any_asks_nothing : (K : ℕ) (small : K ≤ 2 ^ 62) (fits : _) (κs : _) (args : _) → finish.Asked K fits κs args
+finish_of_any_asks_nothing K small fits κs args = search rules
+
+-- ---- and of a key of none, one or two bytes, which are in use, nothing at all
+
+abbrev pub none_fits : Fits w64 0
+none_fits = record { fits = omega arith }
+
+abbrev pub one_fits : Fits w64 1
+one_fits = record { fits = omega arith }
+
+abbrev pub two_fits : Fits w64 2
+two_fits = record { fits = omega arith }
+
+pub is_astray_asks_nothing : (κs : _) (args : _) → is-astray.Asked 1 one_fits κs args
+is_astray_asks_nothing = is_astray_of_any_asks_nothing 1 (omega arith) one_fits
+
+pub is_astray_of_two_asks_nothing : (κs : _) (args : _) → is-astray.Asked 2 two_fits κs args
+is_astray_of_two_asks_nothing = is_astray_of_any_asks_nothing 2 (omega arith) two_fits
+
+pub is_last_asks_nothing : (κs : _) (args : _) → is_last.Asked 1 one_fits κs args
+is_last_asks_nothing = is_last_of_any_asks_nothing 1 (omega arith) one_fits
+
+pub is_last_of_two_asks_nothing : (κs : _) (args : _) → is_last.Asked 2 two_fits κs args
+is_last_of_two_asks_nothing = is_last_of_any_asks_nothing 2 (omega arith) two_fits
+
+pub keep_asks_nothing : (κs : _) (args : _) → keep.Asked 1 one_fits κs args
+keep_asks_nothing = keep_of_any_asks_nothing 1 (omega arith) one_fits
+
+pub keep_of_two_asks_nothing : (κs : _) (args : _) → keep.Asked 2 two_fits κs args
+keep_of_two_asks_nothing = keep_of_any_asks_nothing 2 (omega arith) two_fits
+
+pub join_into_asks_nothing : (κs : _) (args : _) → join-into.Asked 0 none_fits κs args
+join_into_asks_nothing = join_into_of_any_asks_nothing 0 (omega arith) none_fits
+
+pub finish_asks_nothing : (κs : _) (args : _) → finish.Asked 2 two_fits κs args
+finish_asks_nothing = finish_of_any_asks_nothing 2 (omega arith) two_fits

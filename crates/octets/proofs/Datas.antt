@@ -1,18 +1,19 @@
 -- Data and the bytes that it holds: each is read off the other.
-use Prim.Native.Nat.{ℕ, ◌-◌, ◌<◌, ◌≤◌, min}
+use Prim.Native.Nat.{ℕ, suc, ◌+◌, ◌-◌, ◌<◌, ◌≤◌, min}
 use Rattle.std.proofs.Math.Path.{PathP, to_path_p}
 use Rattle.std.proofs.Math.Nat.{ℕ_set}
 use mathlib.Core.Path.{◌≡◌, refl, sym, ap, ◌∙◌}
-use mathlib.Core.Bool.{true, false, ◌&&◌, and-eq-true_iff}
+use mathlib.Core.Bool.{Bool, true, false, ◌&&◌, ◌||◌, and-eq-true_iff}
 use mathlib.Core.List.{List, [], ◌∷◌}
 use native.Mathlib.Omega.{arith}
 use lib.ListN.{length, get_or, take, drop, replicate, length-take}
-use lib.Seq.{length-take-le, take_at, drop_at, get_or-take}
-use lib.Dec.{leb, ltb}
-use borrow.Author.Tests.{leb-true, le-leb, lt-leb}
+use lib.Seq.{drop-nil, length-take-le, take_at, drop_at, get_or-take}
+use lib.Dec.{eqb, leb, ltb}
+use borrow.Author.Tests.{leb-true, le-leb, lt-leb, ltb-true, ltb-false}
 use mathlib.Core.Logic.{◌⊎◌, inl, inr}
-use Rattle.std.specs.List.{slice_range}
+use Rattle.std.specs.List.{slice_range, list_all, enumerate_from}
 use Rattle.laws.specs.Bytes.{zeros, padded}
+use Rattle.laws.proofs.Tests.{split}
 use Rattle.laws.proofs.Bytes.{are_zeros, get_d_past, padded_take}
 use Rattle.octets.specs.declared.Data.{Data}
 use Rattle.octets.specs.Data.{most_data, six, data_of, places_of, bytes_of, tidy}
@@ -120,3 +121,19 @@ data_front l d n p =
 pub tidy_tested : (most : ℕ) (d : Data) → tidy most d ≡ (leb d.len most && zeros (drop d.len d.places))
 unfolding tidy
 tidy_tested most d = rw (six_whole d.places d.six) refl
+
+-- zeros behind the first n of a list, tested at each place: here from the kth on
+pub zeros_behind : (n k : ℕ) (l : List ℕ) → list_all (λ (p : ℕ × ℕ). ltb p.0 n || eqb p.1 0) (enumerate_from k l) ≡ zeros (drop (n - k) l)
+zeros_behind n k [] = rw (drop-nil {A = ℕ} (n - k)) refl
+zeros_behind n k (b ∷ l) =
+    let rest = zeros_behind n (k + 1) l in
+    split (ltb k n)
+    (λ t.
+    let h = ltb-true k n t in
+    let e : n - k ≡ suc (n - (k + 1)) = omega arith in
+    rw e (simp t rest))
+    (λ f.
+    let h = ltb-false k n f in
+    let e : n - k ≡ 0 = omega arith in
+    let z : n - (k + 1) ≡ 0 = omega arith in
+    rw e (simp f (ap (λ (x : Bool). eqb b 0 && x) (rw z at rest))))

@@ -1,10 +1,10 @@
 -- What a buffer holds after bytes were put behind those that it held.
-use Prim.Native.Nat.{ℕ, ◌+◌, ◌-◌, ◌%◌, ◌<◌, ◌≤◌, min}
+use Prim.Native.Nat.{ℕ, ◌+◌, ◌-◌, ◌%◌, ◌≤◌, min}
 use mathlib.Core.Path.{◌≡◌, refl, sym, ap, ◌∙◌, subst}
 use mathlib.Core.Bool.{true, false, true≢false}
 use mathlib.Core.List.{List, [], ◌∷◌, ◌++◌, append-nil, append_assoc}
 use native.Mathlib.Omega.{arith}
-use lib.ListN.{length, take, drop, replicate, length-append, length-take, drop_of_length-le}
+use lib.ListN.{length, take, drop, replicate, length-append, length-take}
 use lib.Seq.{take-nil, take_all, take_at, take-append-le, take-append-add, drop-append-add, length-take-le}
 use lib.Dec.{ltb}
 use borrow.Author.Tests.{ltb-true, ltb-false}
@@ -35,8 +35,8 @@ module _ (p : List ℕ) (u : ℕ) (b : List ℕ) where
   abbrev Left : ℕ → List ℕ → Type 0
   Left n x = (n ≡ appended_count p u b) × (x ≡ appended p u b)
 
-  -- a part of the buffer was lent for so many bytes, and came back with them; behind its end there is none
-  put_in : u ≤ length b → (n : ℕ) → n ≡ min (length p) (length b - u) → (x : List ℕ)
+  -- a part of the buffer was lent for so many bytes, and came back with them
+  pub put_in : u ≤ length b → (n : ℕ) → n ≡ min (length p) (length b - u) → (x : List ℕ)
       → x ≡ take n p
       → Left (u + n) (take u b ++ (x ++ drop (u + n - u) (drop u b)))
   unfolding appended_count appended
@@ -46,27 +46,11 @@ module _ (p : List ℕ) (u : ℕ) (b : List ℕ) where
       let same : take n p ≡ fitting p u b = ap (λ (j : ℕ). take j p) e ∙ take_min (length b - u) p in
       (omega arith, rw k (part_back b x u n (ap length f ∙ m) ∙ ap (put b u) (f ∙ same)))
 
-  put_none : length b < u → (x : List ℕ) → x ≡ [] → (n : ℕ) → n ≡ 0 → Left (u + n) (take (length b) b ++ (x ++ drop n (drop (length b) b)))
+  pub no_room : length b ≤ u → Left u b
   unfolding appended_count appended
-  put_none h x e n z =
+  no_room h =
       let none : length b - u ≡ 0 = omega arith in
-      let past : drop (length b) b ≡ [] = drop_of_length-le b {i = length b} (omega arith) in
-      (omega arith, rw (e, z, none, past, take_all (length b) b (omega arith), append-nil b) (sym (put_nothing b u)))
-
-  pub put_behind : (start n : ℕ) → start ≡ min u (length b) → n ≡ min (length p) (length b - start) → (x : List ℕ) → x ≡ take n p
-      → Left (u + n) (take start b ++ (x ++ drop (start + n - start) (drop start b)))
-  put_behind start n s e x f =
-      split (ltb (length b) u)
-      (λ t.
-      let h = ltb-true (length b) u t in
-      let at : start ≡ length b = omega arith in
-      let z : n ≡ 0 = omega arith in
-      let k : length b + n - length b ≡ n = omega arith in
-      rw (at, k) (put_none h x (f ∙ ap (λ (j : ℕ). take j p) z) n z))
-      (λ g.
-      let h = ltb-false (length b) u g in
-      let at : start ≡ u = omega arith in
-      rw at (put_in h n (e ∙ rw at refl) x f))
+      (omega arith, rw none (sym (put_nothing b u)))
 
 -- ---- parts one behind the other over zeros
 

@@ -4,8 +4,35 @@ ghost use Rattle.pipes.specs.Buffers.{appended, appended_count, lacks_room, Adde
 
 use std::fmt;
 
+// The bytes that a buffer holds.
+pub fn front(used: usize, buffer: &[u8]) -> &[u8]
+    ensures { result.now ≡ take used buffer.now }
+{
+    &buffer[..used.min(buffer.len())]
+}
+
+// Whether a buffer has no room for these bytes behind those that it holds.
+pub(crate) fn lacks_room(part: &[u8], used: usize, buffer: &[u8]) -> bool
+    ensures { result ≡ lacks_room part.now used buffer.now }
+{
+    used <= buffer.len() && buffer.len() - used < part.len()
+}
+
+// Puts bytes behind those that a buffer holds, as many as it has room for, and gives how many it then holds.
+pub fn append(part: &[u8], used: usize, buffer: &mut [u8]) -> usize
+    ensures { (result ≡ appended_count part.now used buffer.old) × (buffer.new ≡ appended part.now used buffer.old) }
+{
+    if buffer.len() <= used {
+        return used;
+    }
+    let n = part.len().min(buffer.len() - used);
+    let end = used + n;
+    buffer[used..end].copy_from_slice(&part[..n]);
+    end
+}
+
 // N bytes, and how many of them at its front it holds. It is an array and no heap, so that a program's memory stays what it is at its start.
-#[derive(Drop)]
+#[derive(Clone, Copy)]
 pub struct Buffer<const N: usize> {
     pub bytes: [u8; N],
     pub used: usize,
@@ -26,26 +53,14 @@ impl<const N: usize> Buffer<N> {
     pub fn held(&self) -> &[u8]
         ensures { result.now ≡ take self.now.used self.now.bytes }
     {
-        let n = self.used.min(N);
-        &self.bytes[..n]
-    }
-
-    // Whether it has no room for these bytes behind those that it holds.
-    pub(crate) fn lacks_room(&self, part: &[u8]) -> bool
-        ensures { result ≡ lacks_room part.now self.now.used self.now.bytes }
-    {
-        self.used <= N && N - self.used < part.len()
+        front(self.used, &self.bytes)
     }
 
     // Puts bytes behind those that it holds, as many as it has room for.
     pub fn append(&mut self, part: &[u8])
         ensures { Added self.old part.now self.new }
     {
-        let start = self.used.min(N);
-        let n = part.len().min(N - start);
-        let bytes = &mut self.bytes[..];
-        bytes[start..start + n].copy_from_slice(&part[..n]);
-        self.used += n;
+        self.used = append(part, self.used, &mut self.bytes);
     }
 }
 

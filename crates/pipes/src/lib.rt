@@ -6,6 +6,6 @@ mod buffer;
 mod complaint;
 mod running;
 
-pub use buffer::Buffer;
-pub use complaint::{COMPLAINT_ROOM, complaint_of, tell};
-pub use running::{BLOCK, Output, Work, next, run};
+pub use buffer::{Buffer, append, front};
+pub use complaint::{COMPLAINT_ROOM, Complaint, complaint_of, tell, tell_displayed};
+pub use running::{BLOCK, Output, Work, next, run, send};

@@ -3,11 +3,26 @@ ghost use Rattle.std.specs.Prelude.{◌≡◌};
 ghost use Rattle.pipes.specs.Buffers.{appended, appended_count, sent_from, next_of};
 
 use crate::Buffer;
+use crate::buffer::{append, front, lacks_room};
 use std::io;
 use std::io::{Read, Stdin, Stdout, Write};
 
 // The bytes that a program reads at a time, and those that wait to be written, at most.
 pub const BLOCK: usize = 65536;
+
+// Puts bytes behind those that wait for standard output, which are written first where there is no room for more. That they could not be written shows
+// where the next are.
+pub fn send(to: Stdout, part: &[u8], used: usize, buffer: &mut [u8]) -> usize
+    ensures { (result ≡ appended_count part.now (sent_from part.now used buffer.old) buffer.old)
+        × (buffer.new ≡ appended part.now (sent_from part.now used buffer.old) buffer.old) }
+{
+    if lacks_room(part, used, buffer) {
+        let mut output = to;
+        let _ = output.write_all(front(used, buffer));
+        return append(part, 0, buffer);
+    }
+    append(part, used, buffer)
+}
 
 // Standard output, and the bytes that wait for it.
 #[derive(Drop)]
@@ -17,16 +32,13 @@ pub struct Output {
 }
 
 impl Output {
-    // Puts bytes behind those that wait, which are written first where there is no room for more. That they could not be written shows where the next are.
+    // Puts bytes behind those that wait, as `send` does.
     pub fn send(&mut self, part: &[u8])
         ensures { (self.new.waiting.used ≡ appended_count part.now (sent_from part.now self.old.waiting.used self.old.waiting.bytes) self.old.waiting.bytes)
             × (self.new.waiting.bytes ≡ appended part.now (sent_from part.now self.old.waiting.used self.old.waiting.bytes) self.old.waiting.bytes)
             × (self.new.to ≡ self.old.to) }
     {
-        if self.waiting.lacks_room(part) {
-            let _ = self.flush();
-        }
-        self.waiting.append(part);
+        self.waiting.used = send(self.to, part, self.waiting.used, &mut self.waiting.bytes);
     }
 
     // Writes what waits.

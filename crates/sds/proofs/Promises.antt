@@ -1,6 +1,6 @@
 -- WHAT THE BORDER PROMISES of messages and records, of what is refused, and of both round trips.
 use Prim.Native.Nat.{ℕ, ◌<◌, ◌≤◌}
-use mathlib.Core.Path.{◌≡◌, refl, ap, ◌∙◌}
+use mathlib.Core.Path.{◌≡◌, refl, sym, ap, ◌∙◌}
 use mathlib.Core.Bool.{true, false, not, ◌&&◌, and-eq-true_iff, or-true}
 use mathlib.Mathlib.Data.Bool.Basic.{or-eq-false-eq-eq-false-and-eq-false as neither}
 use mathlib.Core.List.{List, ◌∷◌}
@@ -31,8 +31,8 @@ use Rattle.join.specs.Work.{area_size}
 use Rattle.guest.specs.Checks.{least_out, checks}
 use Rattle.guest.specs.Step.{Call, setting_of, outcome_of, step_of}
 use Rattle.guest.proofs.Numbers.{number_is}
-use Rattle.sds.specs.Border.{message_size, long_bytes, message_bytes, subject_at, data_at, message_at, bordered, missized, answered_in, border_read_number, border_read, border_write_checks, border_write_number, border_write, table_checks}
-use Rattle.sds.proofs.Places.{bordered_back}
+use Rattle.sds.specs.Border.{message_size, long_bytes, message_bytes, record_message, subject_at, data_at, message_at, bordered, missized, answered_in, border_read_number, border_read, border_write_checks, border_write_number, border_write, table_checks}
+use Rattle.sds.proofs.Places.{bordered_back, put_is_message}
 
 -- ---- the 16 bytes of a message
 
@@ -108,6 +108,14 @@ unfolding border_read_number border_read
 read_leaves r l e =
     split (eqb (length l) 16)
     (λ t. let g = is_read r (simp t at e) in (g, simp (t, g)))
+    (λ f. let z : ◌≡◌ {A = ℕ} 1 0 = simp f at e in absurd (omega arith))
+
+-- and these are what the record's own places say
+pub read_leaves_places : (r l : List ℕ) → border_read_number r l ≡ 0 → border_read r l ≡ record_message r
+unfolding border_read_number
+read_leaves_places r l e =
+    split (eqb (length l) 16)
+    (λ t. (read_leaves r l e).1 ∙ sym (put_is_message r ((none_holds (read_checks r) refl).1 ((codec.reads_exactly r).0 (simp t at e)))))
     (λ f. let z : ◌≡◌ {A = ℕ} 1 0 = simp f at e in absurd (omega arith))
 
 pub write_leaves : (l r : List ℕ) → border_write_number l r ≡ 0

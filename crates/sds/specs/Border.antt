@@ -49,6 +49,10 @@ record_message r =
     (long_bytes 0 (short_subject (header_of r).dir (header_of r).address (header_of r).service) 0 0 (data_of []))
     (long_message (header_of r) (payload_data r))
 
+-- the buffer after a message is put: one of another length stays
+abbrev pub put_message : List ℕ → List ℕ → List ℕ
+put_message l m = cond (eqb (length m) message_size) l m
+
 -- the places of a message, read
 unfoldable pub subject_at : List ℕ → Subject
 subject_at l = record {

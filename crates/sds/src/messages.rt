@@ -5,7 +5,7 @@ ghost use Rattle.codec.specs.Names.{frame_size};
 ghost use Rattle.laws.specs.Bytes.{byte_at, zeros};
 ghost use Rattle.codec.specs.Reading.{number_of, numbered};
 ghost use Rattle.codec.specs.Writing.{written_number};
-ghost use Rattle.sds.specs.Border.{message_size, long_bytes, short_subject, message_bytes, subject_at, data_at, message_in, border_read_number, border_read, border_write_number, border_write};
+ghost use Rattle.sds.specs.Border.{message_size, long_bytes, short_subject, message_bytes, subject_at, data_at, message_in, put_message, border_read_number, border_read, border_write_number, border_write};
 
 use codec::{FRAME_SIZE, Message, ReadError, Subject, WriteError};
 use octets::{Data, byte_at, zeros};
@@ -27,11 +27,13 @@ fn short_subject(dir: u8, address: u8, service: u8) -> Subject
     }
 }
 
-// Puts the 16 bytes of a message, of its kind's number in C.
+// Puts the 16 bytes of a message, of its kind's number in C. A buffer of another length stays.
 fn put_places(kind: u8, u: Subject, number: u8, total: u8, b: Data, message: &mut [u8])
-    requires { length message.old ≡ message_size }
-    ensures { message.new ≡ long_bytes kind u number total b }
+    ensures { message.new ≡ put_message (long_bytes kind u number total b) message.old }
 {
+    if message.len() != MESSAGE {
+        return;
+    }
     message[0] = kind;
     message[1] = u.dir;
     message[2] = u.address;
@@ -50,11 +52,10 @@ fn put_places(kind: u8, u: Subject, number: u8, total: u8, b: Data, message: &mu
     message[15] = b.places[5];
 }
 
-// Puts the 16 bytes of a message.
+// Puts the 16 bytes of a message. A buffer of another length stays.
 #[tactic(auto, unfolding(crate::specs::Border::message_bytes))]
 fn put_message(m: Message, message: &mut [u8])
-    requires { length message.old ≡ message_size }
-    ensures { message.new ≡ message_bytes m }
+    ensures { message.new ≡ put_message (message_bytes m) message.old }
 {
     match m {
         Message::Short {
@@ -180,11 +181,11 @@ fn number(written: Result<(), WriteError>) -> u32
 #[inline(never)]
 #[tactic(auto, unfolding(crate::specs::Border::border_write_number, crate::specs::Border::border_write, codec::specs::Writing::write_number, codec::specs::Writing::written_of))]
 fn write_sized(message: &[u8; MESSAGE], frame: &mut [u8]) -> u32
-    requires { length frame.old ≡ frame_size }
     ensures { (result ≡ border_write_number message.now frame.old) × (frame.new ≡ border_write message.now frame.old) }
 {
     match message_at(message) {
         Some(m) => number(codec::write(m, frame)),
+        None if frame.len() != FRAME_SIZE => number(Err(WriteError::Size)),
         None => number(Err(WriteError::Unfit)),
     }
 }
@@ -200,8 +201,10 @@ pub(crate) fn write_from(message: &[u8], frame: &mut [u8]) -> u32
     if frame.len() != FRAME_SIZE {
         return number(Err(WriteError::Size));
     }
-    if byte_at(message, 0) != 0 {
-        return write_sized(message, frame);
+    match byte_at(message, 0) {
+        0 => {}
+        1 | 2 => return write_sized(message, frame),
+        _ => return number(Err(WriteError::Unfit)),
     }
     let Some(m) = short_at(message) else {
         return number(Err(WriteError::Unfit));
