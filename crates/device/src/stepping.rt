@@ -27,6 +27,7 @@ pub fn step(
         return Err(Refusal::IllFormed);
     }
     let h = codec::header_of(frame);
+    // not by `?`: an edit of what is answered here is then refused for a fact, and not for its form
     match judge::route(own, h) {
         Ok(()) => {}
         Err(refusal) => return Err(refusal),
