@@ -46,6 +46,7 @@ pub fn code_of(number: u32) -> u8
 }
 
 // The data of an error frame: one byte.
+#[tactic(auto, unfolding(octets::specs::Data::data_of))]
 fn reason(number: u8) -> Data
     ensures { result ≡ data_of (code_of number ∷ []) }
 {

@@ -27,7 +27,11 @@ pub fn step(
         return Err(Refusal::IllFormed);
     }
     let h = codec::header_of(frame);
-    judge::route(own, h)?;
+    // not by `?`: an edit of what is answered here is then refused for a fact, and not for its form
+    match judge::route(own, h) {
+        Ok(()) => {}
+        Err(refusal) => return Err(refusal),
+    }
     let request = Request { own: own as u8, h };
     if h.dlc == 0 {
         return switch(request, table, store, out);

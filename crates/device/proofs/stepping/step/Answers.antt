@@ -1,4 +1,3 @@
-use Rattle.std.proofs.lemmas.Result.{err_from_is_err_and}
 use Rattle.guest.specs.Step.{areas, call}
 use Rattle.device.proofs.Outcomes.{misfit_outcome, ill_formed_outcome, unrouted_outcome, short_outcome, error_outcome, step_ready, step_outcome}
 use Rattle.device.proofs.stepping.step.Goals as goal
@@ -14,21 +13,19 @@ returns-then-not-well_formed c =
     ill_formed_outcome (call a.frame.now a.own a.table.now (areas a.store.now a.work.now) a.out.now)
     _ c.misfit.ensures c.if-misfit.false _ c.well_formed-2.ensures c.if-not-well_formed.true
 
-pub returns-in_err-route : goal.returns-in_err-route
-returns-in_err-route c =
+pub returns-in-Err : goal.returns-in-Err
+returns-in-Err c =
     let a = c.args in
-    let p = err_from_is_err_and c.from_residual.result c.from_residual.ensures.1 in
-    rw (p.1, p.2)
-    (unrouted_outcome (call a.frame.now a.own a.table.now (areas a.store.now a.work.now) a.out.now)
+    unrouted_outcome (call a.frame.now a.own a.table.now (areas a.store.now a.work.now) a.out.now)
     _ c.misfit.ensures c.if-misfit.false _ c.well_formed-2.ensures c.if-not-well_formed.false
-    _ c.header_of-h.ensures _ c.route.ensures _ c.in_err-route.was)
+    _ c.header_of-h.ensures _ c.route.ensures _ c.in-Err.is
 
 pub returns-then-h-eq0 : goal.returns-then-h-eq0
 returns-then-h-eq0 c =
     let a = c.args in
     short_outcome (call a.frame.now a.own a.table.now (areas a.store.now a.work.now) a.out.now)
     _ c.misfit.ensures c.if-misfit.false _ c.well_formed-2.ensures c.if-not-well_formed.false
-    _ c.header_of-h.ensures _ c.route.ensures c.in_ok-route.was
+    _ c.header_of-h.ensures _ c.route.ensures c.in-Ok.is
     c.if-h-eq0.true _ (c.switch.ensures a.work.now)
 
 pub apply-requires : goal.apply-requires
@@ -36,21 +33,21 @@ apply-requires c =
     let a = c.args in
     step_ready (call a.frame.now a.own a.table.now (areas a.store.now a.work.now) a.out.now)
     _ c.misfit.ensures c.if-misfit.false _ c.well_formed-2.ensures c.if-not-well_formed.false
-    _ c.header_of-h.ensures _ c.route.ensures c.in_ok-route.was
-    c.if-h-eq0.false _ c.request_plan.ensures _ c.in-Ok.is
+    _ c.header_of-h.ensures _ c.route.ensures c.in-Ok.is
+    c.if-h-eq0.false _ c.request_plan.ensures _ c.in-Ok-request_plan.is
 
-pub returns-in-Ok : goal.returns-in-Ok
-returns-in-Ok c =
+pub returns-in-Ok-request_plan : goal.returns-in-Ok-request_plan
+returns-in-Ok-request_plan c =
     let a = c.args in
     step_outcome (call a.frame.now a.own a.table.now (areas a.store.now a.work.now) a.out.now)
     _ c.misfit.ensures c.if-misfit.false _ c.well_formed-2.ensures c.if-not-well_formed.false
-    _ c.header_of-h.ensures _ c.route.ensures c.in_ok-route.was
-    c.if-h-eq0.false _ c.request_plan.ensures _ c.in-Ok.is _ c.apply.ensures
+    _ c.header_of-h.ensures _ c.route.ensures c.in-Ok.is
+    c.if-h-eq0.false _ c.request_plan.ensures _ c.in-Ok-request_plan.is _ c.apply.ensures
 
-pub returns-in-Err : goal.returns-in-Err
-returns-in-Err c =
+pub returns-in-Err-request_plan : goal.returns-in-Err-request_plan
+returns-in-Err-request_plan c =
     let a = c.args in
     error_outcome (call a.frame.now a.own a.table.now (areas a.store.now a.work.now) a.out.now)
     _ c.misfit.ensures c.if-misfit.false _ c.well_formed-2.ensures c.if-not-well_formed.false
-    _ c.header_of-h.ensures _ c.route.ensures c.in_ok-route.was
-    c.if-h-eq0.false _ c.request_plan.ensures _ c.in-Err.is _ c.refuse.ensures
+    _ c.header_of-h.ensures _ c.route.ensures c.in-Ok.is
+    c.if-h-eq0.false _ c.request_plan.ensures _ c.in-Err-request_plan.is _ c.refuse.ensures
