@@ -1,5 +1,5 @@
 use mathlib.Core.Path.{◌∙◌}
-use Rattle.std.proofs.Common.{rules, arith}
+use Rattle.std.proofs.Common.{arith}
 use Rattle.sds_host.proofs.Values.{no_value, refused_call, shown_call}
 use Rattle.sds_host.proofs.collected.Goals as goal
 
