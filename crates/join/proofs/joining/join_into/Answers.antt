@@ -1,11 +1,8 @@
-use Prim.Native.Nat.{◌+◌, ◌-◌, ◌*◌, ◌<◌}
+use Prim.Native.Nat.{◌+◌, ◌*◌, ◌<◌}
 use mathlib.Core.Path.{◌≡◌, ap, ◌∙◌}
 use mathlib.Core.Bool.{and-false}
-use mathlib.Core.List.{◌++◌}
 use native.Mathlib.Omega.{arith}
-use lib.Seq.{take_all}
-use Rattle.std.proofs.lemmas.Grind.{common_steps}
-use lib.ListN.{length, take, drop, length-take, length-drop}
+use lib.ListN.{length, take, drop, length-drop}
 use borrow.Author.Tests.{lt-leb, ne_eqb}
 use Rattle.join.specs.Work.{head_size}
 use Rattle.join.specs.Code.{join_fits}
@@ -32,11 +29,7 @@ returns-then-part-held g c =
     let fits = joins (length l) a.at a.width a.piece.now.number (length a.piece.now.body.now) (length a.part.now) (omega arith) (omega arith) in
     let front : c.in-Some.front.now ≡ take (a.width * a.piece.now.number) (drop (a.at + head_size) l) =
     held_range a.at held _ l c.record_at.result.now _ c.record_at.ensures times its.0.2 in
-    let cut = ap length its.0.2 ∙ length-take (head_size + held - head_size) (drop head_size c.record_at.result.now) in
-    let long : length c.in-Some.front.now ≡ held = omega (arith, cut, length-drop head_size c.record_at.result.now, its.0.1) in
-    let whole = take_all held c.in-Some.front.now (omega (arith, long)) in
-    let copied : c.copy.new.to ≡ take (length a.part.now) c.in-Some.front.now ++ drop (length c.in-Some.front.now) a.part.now = grind (arith, common_steps, whole, long) in
-    both_copied held c.in-Some.front.now a.piece.now.body.now a.part.now _ _ (omega arith) c.if-part-held.true copied c.copy-then-part-held.ensures
+    both_copied held c.in-Some.front.now a.piece.now.body.now a.part.now _ _ (omega arith) c.if-part-held.true c.copy.ensures c.copy-then-part-held.ensures
     ∙ rw front (simp fits)
 
 pub returns-else-part-held : goal.returns-else-part-held
