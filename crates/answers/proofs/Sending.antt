@@ -3,6 +3,7 @@ use Prim.Native.Nat.{ℕ, ◌+◌, ◌-◌, ◌*◌, ◌/◌, ◌<◌, ◌≤◌
 use mathlib.Core.Path.{◌≡◌, refl, sym, ap, ◌∙◌}
 use mathlib.Core.Bool.{true, and-eq-true_iff}
 use mathlib.Core.Logic.{◌↔◌}
+use Rattle.std.specs.Prelude.{slice_index}
 use mathlib.Core.List.{List, [], ◌∷◌, ◌++◌, append_assoc, append-nil}
 use native.Mathlib.Numerals.{add-one}
 use native.Mathlib.Omega.{arith}
@@ -97,6 +98,15 @@ rest_cut bs n h =
 -- the bytes of a full fragment
 pub full_data : (four : List ℕ) → length four ≡ fragment_bytes → data_of (take most_data four) ≡ data_of four
 full_data four e = ap data_of (take_all most_data four (omega arith))
+
+-- its bytes one by one are the fragment
+pub four_bytes : (four : List ℕ) → length four ≡ fragment_bytes → slice_index four 0 ∷ slice_index four 1 ∷ slice_index four 2 ∷ slice_index four 3 ∷ [] ≡ four
+four_bytes [] e = absurd (omega (arith, e))
+four_bytes (a ∷ []) e = absurd (omega (arith, e))
+four_bytes (a ∷ b ∷ []) e = absurd (omega (arith, e))
+four_bytes (a ∷ b ∷ c ∷ []) e = absurd (omega (arith, e))
+four_bytes (a ∷ b ∷ c ∷ d ∷ []) e = refl
+four_bytes (a ∷ b ∷ c ∷ d ∷ f ∷ l) e = absurd (omega (arith, e))
 
 pub full_tidy : (four : List ℕ) → length four ≡ fragment_bytes → tidy most_fragment_data (data_of four) ≡ true
 full_tidy four e = tidy_data four (omega arith) most_fragment_data (omega arith)
